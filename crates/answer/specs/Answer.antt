@@ -1,0 +1,60 @@
+-- Document 01, "Refusal numbers": each answer is done, or a number with a place. Limits and states.
+use Prim.Native.Nat.{ℕ}
+use mathlib.Core.List.{List, []}
+use mathlib.Core.Bool.{Bool, _&&_}
+use lib.ListN.{replicate}
+use lib.Dec.{leb}
+use Rattle.answer.specs.declared.Refusal.{Refusal}
+use Rattle.answer.specs.declared.Refusal.the-variants.{ShortSlice, BadSize, NoRoom, Cut, WrongType, SmallSize, BodyEnds, ZeroCount, PastWidth, PastHeight, BadWord, PastPalette, OverLevel, BadHeader, FewFrames, BadRing, BadTrailer, WrongTime}
+use Rattle.answer.specs.declared.Answer.{Answer}
+use Rattle.answer.specs.declared.Answer.the-variants.{Done, Refused}
+
+-- the paper's number of each refusal
+abbrev pub number : Refusal → ℕ
+number ShortSlice = 1
+number BadSize = 2
+number NoRoom = 3
+number Cut = 4
+number WrongType = 5
+number SmallSize = 6
+number BodyEnds = 7
+number ZeroCount = 8
+number PastWidth = 9
+number PastHeight = 10
+number BadWord = 11
+number PastPalette = 12
+number OverLevel = 13
+number BadHeader = 14
+number FewFrames = 15
+number BadRing = 16
+number BadTrailer = 17
+number WrongTime = 18
+
+-- "Each answer is done, or a number with a place": done with its values, or refused with number and place
+pub data Said : Type 0 where
+  done : List ℕ → Said
+  refused : ℕ → ℕ → Said
+
+-- what an answer says, in the paper's numbers
+abbrev pub told : Answer → Said
+told Done = done []
+told (Refused e place) = refused (number e) place
+
+-- "Width is 1 to 320, height 1 to 200"
+abbrev pub maxWidth : ℕ
+maxWidth = 320
+
+abbrev pub maxHeight : ℕ
+maxHeight = 200
+
+abbrev pub sizeOk : ℕ → ℕ → Bool
+sizeOk w h = leb 1 w && (leb w maxWidth && (leb 1 h && leb h maxHeight))
+
+-- a picture and a palette
+pub record State : Type 0 where
+  pub picture : List ℕ
+  pub palette : List ℕ
+
+-- document 01's "Blank: all pixels and palette bytes 0", of a picture of n pixels
+unfoldable pub blank : ℕ → State
+blank n = record { picture = replicate n 0; palette = replicate 768 0 }

@@ -1,0 +1,27 @@
+-- The type of a frame chunk, and the kinds of its sub-chunks, by the names of document 001.
+use Prim.Native.Nat.{ℕ}
+
+-- hex F1FA
+abbrev pub FRAME-TYPE : ℕ
+FRAME-TYPE = 61946
+
+abbrev pub FLI-COLOR256 : ℕ
+FLI-COLOR256 = 4
+
+abbrev pub FLI-SS2 : ℕ
+FLI-SS2 = 7
+
+abbrev pub FLI-COLOR : ℕ
+FLI-COLOR = 11
+
+abbrev pub FLI-LC : ℕ
+FLI-LC = 12
+
+abbrev pub FLI-BLACK : ℕ
+FLI-BLACK = 13
+
+abbrev pub FLI-BRUN : ℕ
+FLI-BRUN = 15
+
+abbrev pub FLI-COPY : ℕ
+FLI-COPY = 16

@@ -1,0 +1,95 @@
+// What a call answers: done, or one of document 01's refusals with a place. Limits of a picture.
+ghost use mathlib.Core.Path.{_≡_};
+ghost use Rattle.answer.specs.Answer.{sizeOk};
+
+// Limits of a picture (document 01, "What the boards need").
+pub const MAX_WIDTH: usize = 320;
+
+pub const MAX_HEIGHT: usize = 200;
+
+pub const PALETTE_BYTES: usize = 768;
+
+// The type of a frame chunk, and the kinds of its sub-chunks, by the names of document 001.
+pub const FRAME_TYPE: usize = 0xf1fa;
+
+pub const FLI_COLOR256: usize = 4;
+
+pub const FLI_SS2: usize = 7;
+
+pub const FLI_COLOR: usize = 11;
+
+pub const FLI_LC: usize = 12;
+
+pub const FLI_BLACK: usize = 13;
+
+pub const FLI_BRUN: usize = 15;
+
+pub const FLI_COPY: usize = 16;
+
+// The refusals, in the order of their numbers (document 01, "Refusal numbers").
+pub enum Refusal {
+    // 1: a picture slice is shorter than width times height, or a palette slice than 768
+    ShortSlice,
+    // 2: width or height is out of range
+    BadSize,
+    // 3: the output is shorter than the bytes to be written, or a size passes 32 bits
+    NoRoom,
+    // 4: fewer bytes than a header has, a size field runs past what encloses it, or a record that doesn't fit
+    Cut,
+    // 5: wrong file magic, or a type that isn't F1FA
+    WrongType,
+    // 6: a size field is less than its own header
+    SmallSize,
+    // 7: a chunk's body ends before its data
+    BodyEnds,
+    // 8: a BRUN packet of count 0
+    ZeroCount,
+    // 9: a packet runs past the row's width
+    PastWidth,
+    // 10: a row at or below the height
+    PastHeight,
+    // 11: a kind 7 word with high bits 01, or no packet count after a last-pixel word
+    BadWord,
+    // 12: a colour packet runs past entry 255
+    PastPalette,
+    // 13: a kind 11 component over 63
+    OverLevel,
+    // 14: depth, frame count or flags of a file header
+    BadHeader,
+    // 15: fewer than 6 bytes left before frames + 1 frame chunks are met
+    FewFrames,
+    // 16: the ring doesn't give frame 1's picture and palette
+    BadRing,
+    // 17: the trailer isn't the one that document 01 defines
+    BadTrailer,
+    // 18: adding to a closed reel, a frame too many, closing with none or twice
+    WrongTime,
+}
+
+// How a walk over a body comes out: the offset where its data ended, or its first fault.
+pub enum Verdict {
+    Ends(usize),
+    Fault(Refusal),
+}
+
+// Done, or a refusal with its place.
+pub enum Answer {
+    Done,
+    Refused(Refusal, usize),
+}
+
+// Whether a picture may have this width and height.
+pub fn size_ok(width: usize, height: usize) -> bool
+    ensures { λ r. ⌜ r ≡ sizeOk width height ⌝ }
+{
+    if width < 1 {
+        return false;
+    }
+    if width > MAX_WIDTH {
+        return false;
+    }
+    if height < 1 {
+        return false;
+    }
+    height <= MAX_HEIGHT
+}

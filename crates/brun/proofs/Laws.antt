@@ -1,0 +1,285 @@
+-- Laws of the definitions in specs/Brun.antt that the proofs of the readers cite.
+use mathlib.Core.Path.{_≡_, ap, _∙_, sym, refl, ap₂, subst}
+use mathlib.Core.List.{List}
+use mathlib.Core.Bool.{Bool, true, false}
+use Prim.Native.Nat.{ℕ, suc, zero, _≤_, _<_, _+_, _-_, _*_}
+use native.Mathlib.Nat.{not-suc-le-zero, le-of-suc-le-suc}
+use native.Mathlib.Numerals.{sub-one}
+use native.Mathlib.Omega.{arith}
+use borrow.Author.Tests.{le-leb, lt-leb, lt-ltb, le-ltb, ltb-true, ltb-false, leb-true}
+use lib.ListN.{length, drop, take, getD, replicate, length-drop, length-replicate, length-append}
+use lib.Seq.{length-take-le}
+use lib.Dec.{leb, ltb}
+use Rattle.words.specs.Words.{pick, magnitude}
+use Rattle.words.specs.Writes.{put, written}
+use Rattle.words.proofs.Laws.{magnitude-plus, magnitude-minus, put-append, row-in, Inside}
+use Rattle.answer.proofs.Laws.{VerdictIn, fault-not-end}
+use Rattle.answer.specs.declared.Refusal.{Refusal}
+use Rattle.answer.specs.declared.Refusal.the-variants.{BodyEnds, ZeroCount, PastWidth}
+use Rattle.answer.specs.declared.Verdict.{Verdict}
+use Rattle.answer.specs.declared.Verdict.the-variants as verdict
+use Rattle.brun.specs.Brun.{Run, ends, fault, before, onward, dataBytes, pixels, packetOf, packetAt, afterPacket, packets, row, rows, brun}
+use Rattle.brun.specs.declared.Packet.{Packet}
+use Rattle.brun.specs.declared.Packet.the-variants.{Fault, Pixels}
+
+-- types: below 128 a repeat, from 128 on a copy
+
+pub data-repeat : (t : ℕ) → t < 128 → dataBytes t ≡ 1
+unfolding dataBytes
+data-repeat t h = simp (lt-ltb t 128 h)
+
+pub data-copy : (t : ℕ) → 128 ≤ t → dataBytes t ≡ 256 - t
+unfolding dataBytes
+data-copy t h = simp (le-ltb t 128 h)
+
+pub pixels-repeat : (b : List ℕ) (at t : ℕ) → t < 128 → pixels b at t ≡ replicate t (getD b at 0)
+unfolding pixels
+pixels-repeat b at t h = simp (lt-ltb t 128 h)
+
+pub pixels-copy : (b : List ℕ) (at t : ℕ) → 128 ≤ t → pixels b at t ≡ take (256 - t) (drop at b)
+unfolding pixels
+pixels-copy b at t h = simp (le-ltb t 128 h)
+
+-- how many pixels a packet has, whose data lies in b
+pub length-pixels : (b : List ℕ) (at t : ℕ) → at + dataBytes t ≤ length b → length (pixels b at t) ≡ magnitude t
+length-pixels b at t h = go (ltb t 128) refl
+  where
+    go : (c : Bool) → ltb t 128 ≡ c → length (pixels b at t) ≡ magnitude t
+    go true e =
+        let k = ltb-true t 128 e in
+        ap length (pixels-repeat b at t k) ∙ length-replicate t _ ∙ sym (magnitude-plus t k)
+    go false e =
+        let k = ltb-false t 128 e in
+        ap length (pixels-copy b at t k) ∙ length-take-le (256 - t) (drop at b) (simp length-drop (omega (arith, data-copy t k))) ∙ sym (magnitude-minus t k)
+
+-- a packet
+
+module _ (b : List ℕ) (at left : ℕ) where
+  pub packet-cut : length b < at + 1 → packetAt b at left ≡ Fault BodyEnds
+  unfolding packetAt
+  packet-cut h = simp (lt-leb (at + 1) (length b) h)
+
+  pub packet-zero : at + 1 ≤ length b → magnitude (getD b at 0) < 1 → packetAt b at left ≡ Fault ZeroCount
+  unfolding packetAt packetOf
+  packet-zero h z = simp (le-leb (at + 1) (length b) h, lt-leb 1 (magnitude (getD b at 0)) z)
+
+  pub packet-past : at + 1 ≤ length b → 1 ≤ magnitude (getD b at 0) → left < magnitude (getD b at 0) → packetAt b at left ≡ Fault PastWidth
+  unfolding packetAt packetOf
+  packet-past h z k = simp (le-leb (at + 1) (length b) h, le-leb 1 (magnitude (getD b at 0)) z, lt-leb (magnitude (getD b at 0)) left k)
+
+  pub packet-short : at + 1 ≤ length b → 1 ≤ magnitude (getD b at 0) → magnitude (getD b at 0) ≤ left → length b < at + 1 + dataBytes (getD b at 0)
+      → packetAt b at left ≡ Fault BodyEnds
+  unfolding packetAt packetOf
+  packet-short h z k l =
+      simp (le-leb (at + 1) (length b) h, le-leb 1 (magnitude (getD b at 0)) z, le-leb (magnitude (getD b at 0)) left k, lt-leb (at + 1 + dataBytes (getD b at 0)) (length b) l)
+
+  pub packet-whole : at + 1 ≤ length b → 1 ≤ magnitude (getD b at 0) → magnitude (getD b at 0) ≤ left → at + 1 + dataBytes (getD b at 0) ≤ length b
+      → packetAt b at left ≡ Pixels (getD b at 0) (magnitude (getD b at 0)) (at + 1 + dataBytes (getD b at 0))
+  unfolding packetAt packetOf
+  packet-whole h z k l =
+      simp (le-leb (at + 1) (length b) h, le-leb 1 (magnitude (getD b at 0)) z, le-leb (magnitude (getD b at 0)) left k, le-leb (at + 1 + dataBytes (getD b at 0)) (length b) l)
+
+-- packets of a row
+
+module _ (b : List ℕ) where
+  packets-skip : (left k at : ℕ) → k ≤ left → packets b left k at ≡ packets b (left - k) 0 at
+  unfolding packets
+  packets-skip left zero at h = let e : left ≡ left - 0 = omega arith in ap (λ (n : ℕ). packets b n 0 at) e
+  packets-skip zero (suc k) at h = absurd (not-suc-le-zero h)
+  packets-skip (suc left) (suc k) at h =
+      let e : left - k ≡ suc left - suc k = omega arith in
+      packets-skip left k at (le-of-suc-le-suc h) ∙ ap (λ (n : ℕ). packets b n 0 at) e
+
+  pub packets-none : (left at : ℕ) → left ≤ 0 → packets b left 0 at ≡ ends at
+  unfolding packets
+  packets-none zero at h = refl
+  packets-none (suc left) at h = absurd (not-suc-le-zero h)
+
+  packets-as : (left at : ℕ) → 0 < left → (p : Packet) → packetAt b at left ≡ p
+      → packets b left 0 at ≡ afterPacket b at p (λ n end. packets b (left - 1) (n - 1) end)
+  unfolding packets
+  packets-as zero at h p q = absurd (not-suc-le-zero h)
+  packets-as (suc left) at h p q =
+      ap₂ (λ (x : Packet) (k : ℕ). afterPacket b at x (λ n end. packets b k (n - 1) end)) q (sym (sub-one (suc left)))
+
+  pub packets-stop : (left at : ℕ) → 0 < left → (e : Refusal) → packetAt b at left ≡ Fault e → packets b left 0 at ≡ fault e
+  packets-stop left at h e q = packets-as left at h (Fault e) q
+
+  pub packets-more : (left at : ℕ) → 0 < left → (t n end : ℕ) → packetAt b at left ≡ Pixels t n end → 1 ≤ n → n ≤ left
+      → packets b left 0 at ≡ before (pixels b (at + 1) t) (packets b (left - n) 0 end)
+  packets-more left at h t n end q some fits =
+      let e : left - 1 - (n - 1) ≡ left - n = omega arith in
+      packets-as left at h (Pixels t n end) q
+      ∙ ap (λ (r : Run). before (pixels b (at + 1) t) r) (packets-skip (left - 1) (n - 1) end (omega arith) ∙ ap (λ (k : ℕ). packets b k 0 end) e)
+
+-- a row
+
+module _ (w : ℕ) (b : List ℕ) (at : ℕ) where
+  pub row-cut : length b < at + 1 → row w b at ≡ fault BodyEnds
+  unfolding row
+  row-cut h = simp (lt-leb (at + 1) (length b) h)
+
+  pub row-open : at + 1 ≤ length b → row w b at ≡ packets b w 0 (at + 1)
+  unfolding row
+  row-open h = simp (le-leb (at + 1) (length b) h)
+
+-- rows
+
+module _ (w : ℕ) (b : List ℕ) where
+  pub rows-none : (h at : ℕ) → h ≤ 0 → rows w b h at ≡ ends at
+  unfolding rows
+  rows-none zero at k = refl
+  rows-none (suc h) at k = absurd (not-suc-le-zero k)
+
+  rows-as : (h at : ℕ) → 0 < h → (v : Verdict) → row w b at .verdict ≡ v → rows w b h at ≡ onward (row w b at .pixels) v (λ end. rows w b (h - 1) end)
+  unfolding rows
+  rows-as zero at k v q = absurd (not-suc-le-zero k)
+  rows-as (suc h) at k v q =
+      ap₂ (λ (x : Verdict) (n : ℕ). onward (row w b at .pixels) x (λ end. rows w b n end)) q (sym (sub-one (suc h)))
+
+  pub rows-stop : (h at : ℕ) → 0 < h → (e : Refusal) → row w b at .verdict ≡ verdict.Fault e
+      → rows w b h at ≡ record { pixels = row w b at .pixels; verdict = verdict.Fault e }
+  rows-stop h at k e q = rows-as h at k (verdict.Fault e) q
+
+  pub rows-more : (h at : ℕ) → 0 < h → (end : ℕ) → row w b at .verdict ≡ verdict.Ends end → rows w b h at ≡ before (row w b at .pixels) (rows w b (h - 1) end)
+  rows-more h at k end q = rows-as h at k (verdict.Ends end) q
+
+-- the bounds of a packet: its pixels lie in the row, its data in the body
+
+abbrev pub PacketIn : List ℕ → ℕ → ℕ → Packet → Type 0
+PacketIn b at left (Fault e) = Unit {0}
+PacketIn b at left (Pixels t n end) = (1 ≤ n) × (n ≤ left) × (magnitude t ≡ n) × (at + 1 + dataBytes t ≡ end) × (end ≤ length b)
+
+pub packet-in : (b : List ℕ) (at left : ℕ) (p : Packet) → packetAt b at left ≡ p → PacketIn b at left p
+unfolding packetAt packetOf
+packet-in b at left p e = subst (PacketIn b at left) e (go (leb (at + 1) (length b)) (leb 1 (magnitude t)) (leb (magnitude t) left) (leb (at + 1 + dataBytes t) (length b)) refl refl refl)
+  where
+    t : ℕ
+    t = getD b at 0
+
+    go : (a z k l : Bool) → leb 1 (magnitude t) ≡ z → leb (magnitude t) left ≡ k → leb (at + 1 + dataBytes t) (length b) ≡ l
+        → PacketIn b at left (pick a (pick z (pick k (pick l (Pixels t (magnitude t) (at + 1 + dataBytes t)) (Fault BodyEnds)) (Fault PastWidth)) (Fault ZeroCount)) (Fault BodyEnds))
+    go false z k l p q r = tt
+    go true false k l p q r = tt
+    go true true false l p q r = tt
+    go true true true false p q r = tt
+    go true true true true p q r = (leb-true 1 (magnitude t) p, leb-true (magnitude t) left q, refl, refl, leb-true (at + 1 + dataBytes t) (length b) r)
+
+-- how long a row is, and where its data ends
+
+packets-length : (b : List ℕ) (left k at end : ℕ) → k ≤ left → packets b left k at .verdict ≡ verdict.Ends end → length (packets b left k at .pixels) + k ≡ left
+unfolding packets
+packets-length b zero zero at end h v = refl
+packets-length b zero (suc k) at end h v = absurd (not-suc-le-zero h)
+packets-length b (suc left) (suc k) at end h v = omega (arith, packets-length b left k at end (le-of-suc-le-suc h) v)
+packets-length b (suc left) zero at end h v = go (packetAt b at (suc left)) (packet-in b at (suc left) _ refl) (λ m j e i u. packets-length b left m j e i u) v
+  where
+    go : (p : Packet) → PacketIn b at (suc left) p
+        → ((m j e : ℕ) → m ≤ left → packets b left m j .verdict ≡ verdict.Ends e → length (packets b left m j .pixels) + m ≡ left)
+        → afterPacket b at p (λ n j. packets b left (n - 1) j) .verdict ≡ verdict.Ends end
+        → length (afterPacket b at p (λ n j. packets b left (n - 1) j) .pixels) + 0 ≡ suc left
+    go (Fault e) i ih u = fault-not-end u
+    go (Pixels t n j) i ih u =
+        omega (arith, length-append (pixels b (at + 1) t) (packets b left (n - 1) j .pixels), length-pixels b (at + 1) t (omega (arith, i .3, i .4)), i .0, i .1, i .2, ih (n - 1) j end (omega (arith, i .0, i .1)) u)
+
+-- a row that ends has w pixels
+pub row-length : (w : ℕ) (b : List ℕ) (at end : ℕ) → row w b at .verdict ≡ verdict.Ends end → length (row w b at .pixels) ≡ w
+unfolding row
+row-length w b at end v = go (leb (at + 1) (length b)) v
+  where
+    go : (c : Bool) → pick c (packets b w 0 (at + 1)) (fault BodyEnds) .verdict ≡ verdict.Ends end → length (pick c (packets b w 0 (at + 1)) (fault BodyEnds) .pixels) ≡ w
+    go true u = omega (arith, packets-length b w 0 (at + 1) end (omega arith) u)
+    go false u = fault-not-end u
+
+-- the data of packets, of a row and of rows ends within b; they have no more pixels than there is room for
+
+packets-ends : (b : List ℕ) (left k at : ℕ) → at ≤ length b → VerdictIn b (packets b left k at .verdict)
+unfolding packets
+packets-ends b zero k at i = i
+packets-ends b (suc left) (suc k) at i = packets-ends b left k at i
+packets-ends b (suc left) zero at i = go (packetAt b at (suc left)) (packet-in b at (suc left) _ refl) (λ m j h. packets-ends b left m j h)
+  where
+    go : (p : Packet) → PacketIn b at (suc left) p → ((m j : ℕ) → j ≤ length b → VerdictIn b (packets b left m j .verdict))
+        → VerdictIn b (afterPacket b at p (λ n j. packets b left (n - 1) j) .verdict)
+    go (Fault e) i ih = tt
+    go (Pixels t n j) i ih = ih (n - 1) j (i .4)
+
+packets-most : (b : List ℕ) (left k at : ℕ) → k ≤ left → length (packets b left k at .pixels) + k ≤ left
+unfolding packets
+packets-most b zero k at h = omega arith
+packets-most b (suc left) (suc k) at h = omega (arith, packets-most b left k at (le-of-suc-le-suc h))
+packets-most b (suc left) zero at h = go (packetAt b at (suc left)) (packet-in b at (suc left) _ refl) (λ m j i. packets-most b left m j i)
+  where
+    go : (p : Packet) → PacketIn b at (suc left) p → ((m j : ℕ) → m ≤ left → length (packets b left m j .pixels) + m ≤ left)
+        → length (afterPacket b at p (λ n j. packets b left (n - 1) j) .pixels) + 0 ≤ suc left
+    go (Fault e) i ih = omega arith
+    go (Pixels t n j) i ih =
+        omega (arith, length-append (pixels b (at + 1) t) (packets b left (n - 1) j .pixels), length-pixels b (at + 1) t (omega (arith, i .3, i .4)), i .0, i .1, i .2, ih (n - 1) j (omega (arith, i .0, i .1)))
+
+pub row-ends : (w : ℕ) (b : List ℕ) (at : ℕ) → VerdictIn b (row w b at .verdict)
+unfolding row
+row-ends w b at = go (leb (at + 1) (length b)) refl
+  where
+    go : (c : Bool) → leb (at + 1) (length b) ≡ c → VerdictIn b (pick c (packets b w 0 (at + 1)) (fault BodyEnds) .verdict)
+    go true e = packets-ends b w 0 (at + 1) (leb-true (at + 1) (length b) e)
+    go false e = tt
+
+row-most : (w : ℕ) (b : List ℕ) (at : ℕ) → length (row w b at .pixels) ≤ w
+unfolding row
+row-most w b at = go (leb (at + 1) (length b))
+  where
+    go : (c : Bool) → length (pick c (packets b w 0 (at + 1)) (fault BodyEnds) .pixels) ≤ w
+    go true = omega (arith, packets-most b w 0 (at + 1) (omega arith))
+    go false = omega arith
+
+rows-ends : (w : ℕ) (b : List ℕ) (h at : ℕ) → at ≤ length b → VerdictIn b (rows w b h at .verdict)
+unfolding rows
+rows-ends w b zero at i = i
+rows-ends w b (suc h) at i = go (row w b at .verdict) (row-ends w b at) (λ end j. rows-ends w b h end j)
+  where
+    go : (v : Verdict) → VerdictIn b v → ((end : ℕ) → end ≤ length b → VerdictIn b (rows w b h end .verdict))
+        → VerdictIn b (onward (row w b at .pixels) v (λ end. rows w b h end) .verdict)
+    go (verdict.Ends end) i ih = ih end i
+    go (verdict.Fault e) i ih = tt
+
+rows-most : (w : ℕ) (b : List ℕ) (h at : ℕ) → length (rows w b h at .pixels) ≤ w * h
+unfolding rows
+rows-most w b zero at = omega arith
+rows-most w b (suc h) at = go (row w b at .verdict) (λ end. rows-most w b h end)
+  where
+    go : (v : Verdict) → ((end : ℕ) → length (rows w b h end .pixels) ≤ w * h)
+        → length (onward (row w b at .pixels) v (λ end. rows w b h end) .pixels) ≤ w * suc h
+    go (verdict.Ends end) ih = omega (arith, length-append (row w b at .pixels) (rows w b h end .pixels), row-most w b at, ih end)
+    go (verdict.Fault e) ih = omega (arith, row-most w b at)
+
+-- the whole picture
+
+pub brun-in : (w h : ℕ) (b : List ℕ) → VerdictIn b (brun w h b .verdict)
+unfolding brun
+brun-in w h b = rows-ends w b h 0 (omega arith)
+
+pub brun-inside : (w h : ℕ) (b : List ℕ) → Inside (w * h) (brun w h b .writes)
+unfolding brun
+brun-inside w h b = (omega (arith, rows-most w b h 0), tt)
+
+pub brun-verdict : (w h : ℕ) (b : List ℕ) → brun w h b .verdict ≡ rows w b h 0 .verdict
+unfolding brun
+brun-verdict w h b = refl
+
+pub brun-written : (w h : ℕ) (b d : List ℕ) → written (brun w h b .writes) d ≡ put d 0 (rows w b h 0 .pixels)
+unfolding brun written
+brun-written w h b d = refl
+
+abbrev pub shown : List ℕ → ℕ → Run → List ℕ
+shown d to r = put d to (r .pixels)
+
+-- a row that ends, and then the rows below it
+pub rows-played : (w h : ℕ) (b d : List ℕ) (k at end : ℕ) → k < h → w * h ≤ length d → row w b at .verdict ≡ verdict.Ends end
+    → shown d (k * w) (rows w b (h - k) at) ≡ shown (shown d (k * w) (row w b at)) ((k + 1) * w) (rows w b (h - (k + 1)) end)
+rows-played w h b d k at end fits room v =
+    let n = row-length w b at end v in
+    let e : h - k - 1 ≡ h - (k + 1) = omega arith in
+    let p : k * w + w ≡ (k + 1) * w = omega arith in
+    ap (shown d (k * w)) (rows-more w b (h - k) at (omega arith) end v)
+    ∙ put-append d (k * w) (row w b at .pixels) (rows w b (h - k - 1) end .pixels) w n (omega (arith, row-in w h k fits))
+    ∙ ap₂ (λ (x y : ℕ). put (shown d (k * w) (row w b at)) x (rows w b y end .pixels)) p e

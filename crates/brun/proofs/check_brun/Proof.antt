@@ -1,0 +1,71 @@
+use Rattle.brun.proofs.Laws.{brun-verdict, row-ends, rows-none, rows-stop, rows-more}
+use borrow.Author.Needs.{needs}
+use Rattle.brun.specs.Brun.{Run, rows}
+use Rattle.answer.specs.declared.Verdict.{Verdict}
+use Rattle.answer.proofs.Laws.{VerdictIn}
+use lib.ListN.{length}
+use native.Mathlib.Omega.{arith}
+use Prim.Native.Nat.{_≤_, _-_}
+use mathlib.Core.Path.{_≡_, ap, _∙_, sym, refl, subst}
+use Rattle.brun.proofs.check_brun.Statement.{statement}
+use Rattle.brun.proofs.check_brun.Tie as tie
+
+abbrev Inv-loop : tie.InvT-loop
+Inv-loop body width height at₀ left₀ at left = (at ≤ length body) × (rows width body height 0 .verdict ≡ rows width body left at .verdict)
+
+abbrev μ-loop : tie.MeasureT-loop
+μ-loop body width height at₀ left₀ at left = left
+
+abbrev out : Run → Verdict
+out r = r .verdict
+
+loop-holds : tie.Need-loop-holds Inv-loop μ-loop
+loop-holds c = (omega arith, refl)
+
+check-row-requires : tie.Need-check-row-requires Inv-loop μ-loop
+check-row-requires c κs = search needs
+
+enum-known-e : tie.Need-enum-known-e Inv-loop μ-loop
+enum-known-e c = search needs
+
+returns : tie.Need-returns Inv-loop μ-loop
+returns c =
+    let a = c .before .before .before .before .before .before .before .args in
+    let l = c .before .before .before .before .before .loop in
+    sym (brun-verdict (a .width) (a .height) (a .body .now) ∙ l .inv .1 ∙ ap out (rows-stop _ _ _ _ (c .before .before .before .before .loop-test .taken) _ (sym (c .before .before .before .check-row .ensures) ∙ c .before .e .given .1)))
+
+enum-known-end : tie.Need-enum-known-end Inv-loop μ-loop
+enum-known-end c = search needs
+
+sub-left : tie.Need-sub-left Inv-loop μ-loop
+sub-left c = search needs
+
+loop-less : tie.Need-loop-less Inv-loop μ-loop
+loop-less c = search needs
+
+loop-again : tie.Need-loop-again Inv-loop μ-loop
+loop-again c = (
+  subst (VerdictIn (c .before .before .before .before .before .before .before .args .body .now)) (sym (c .before .before .before .check-row .ensures) ∙ c .before .end .given .1) (row-ends _ _ _),
+  c .before .before .before .before .before .loop .inv .1 ∙ ap out (rows-more _ _ _ _ (c .before .before .before .before .loop-test .taken) _ (sym (c .before .before .before .check-row .ensures) ∙ c .before .end .given .1)),
+)
+
+returns-2 : tie.Need-returns-2 Inv-loop μ-loop
+returns-2 c =
+    let a = c .before .before .before .args in
+    sym (brun-verdict (a .width) (a .height) (a .body .now) ∙ c .before .loop .inv .1 ∙ ap out (rows-none _ _ _ _ (c .loop-test .left)))
+
+pub check-brun-spec : {M : Type 1} → statement M
+check-brun-spec =
+    tie.close
+    (tie.spec
+    Inv-loop
+    μ-loop
+    loop-holds
+    check-row-requires
+    enum-known-e
+    returns
+    enum-known-end
+    sub-left
+    loop-less
+    loop-again
+    returns-2)

@@ -1,0 +1,237 @@
+-- Laws of the packets of a delta row: what each type of packet has, what each packet says, what a row of them comes to.
+use mathlib.Core.Path.{_≡_, ap, _∙_, sym, refl}
+use mathlib.Core.List.{List, [], _∷_, _++_, append-nil, append-assoc}
+use mathlib.Core.Bool.{Bool, true, false}
+use Prim.Native.Nat.{ℕ, suc, zero, _≤_, _<_, _+_, _-_, _*_}
+use native.Mathlib.Nat.{not-suc-le-zero, le-of-suc-le-suc, mul-comm, zero-mul, suc-mul, mul-le-mul}
+use native.Mathlib.Numerals.{add-one, sub-one}
+use native.Mathlib.Omega.{arith}
+use borrow.Author.Tests.{le-leb, lt-leb, lt-ltb, le-ltb, ltb-true, ltb-false, leb-true, leb-false}
+use lib.Dec.{leb, ltb}
+use lib.ListN.{length, drop, take, set, getD, replicate, length-drop, length-append}
+use lib.Seq.{length-take-le, drop-cons}
+use Rattle.words.specs.Words.{magnitude}
+use Rattle.words.specs.Writes.{put, written}
+use Rattle.words.proofs.Laws.{magnitude-plus, magnitude-minus, Inside, row-in}
+use Rattle.answer.specs.declared.Refusal.{Refusal}
+use Rattle.answer.specs.declared.Refusal.the-variants.{BodyEnds, PastWidth}
+use Rattle.answer.specs.Walk.{ends, fault, andThen}
+use Rattle.answer.proofs.Laws.{after, VerdictIn}
+use Rattle.packets.specs.Packets.{repeated, dataBytes, pixels, packetOf, packetAt, afterPacket, packets}
+use Rattle.packets.specs.declared.Packet.{Packet}
+use Rattle.packets.specs.declared.Packet.the-variants.{Fault, Pixels}
+
+-- pixels repeated
+
+pub repeated-more : (n : ℕ) (v : List ℕ) → repeated n v ++ v ≡ repeated (suc n) v
+unfolding repeated
+repeated-more zero v = sym (append-nil v)
+repeated-more (suc n) v = append-assoc v (repeated n v) v ∙ ap (λ (l : List ℕ). v ++ l) (repeated-more n v)
+
+pub repeated-one : (n p : ℕ) → repeated n (p ∷ []) ≡ replicate n p
+unfolding repeated
+repeated-one zero p = refl
+repeated-one (suc n) p = ap (λ (l : List ℕ). p ∷ l) (repeated-one n p)
+
+pub length-repeated : (n : ℕ) (v : List ℕ) → length (repeated n v) ≡ n * length v
+unfolding repeated
+length-repeated zero v = sym (zero-mul (length v))
+length-repeated (suc n) v = length-append v (repeated n v) ∙ omega (arith, length-repeated n v, suc-mul n (length v))
+
+-- two stores, one after the other
+set-pair : (l : List ℕ) (j p q : ℕ) → suc j < length l → take (suc (suc j)) (set (set l j p) (suc j) q) ≡ take j l ++ (p ∷ (q ∷ []))
+set-pair [] j p q h = absurd (not-suc-le-zero h)
+set-pair (x ∷ []) j p q h = absurd (not-suc-le-zero (le-of-suc-le-suc h))
+set-pair (x ∷ (y ∷ ys)) zero p q h = refl
+set-pair (x ∷ (y ∷ ys)) (suc j) p q h = ap (λ (l : List ℕ). x ∷ l) (set-pair (y ∷ ys) j p q (le-of-suc-le-suc h))
+
+-- one more pair, after i of them
+pub repeated-pair : (l : List ℕ) (i p q : ℕ) → 2 * i + 1 < length l → take (2 * i) l ≡ repeated i (p ∷ (q ∷ []))
+    → take (2 * (i + 1)) (set (set l (2 * i) p) (2 * i + 1) q) ≡ repeated (i + 1) (p ∷ (q ∷ []))
+repeated-pair l i p q h e =
+    let a : 2 * (i + 1) ≡ suc (suc (2 * i)) = omega arith in
+    let b : 2 * i + 1 ≡ suc (2 * i) = omega arith in
+    rw (a, b, add-one i) (set-pair l (2 * i) p q (omega arith) ∙ ap (λ (x : List ℕ). x ++ (p ∷ (q ∷ []))) e ∙ repeated-more i (p ∷ (q ∷ [])))
+
+-- at most 128 pixels or pairs
+pub units-small : (unit n : ℕ) → unit ≤ 2 → n ≤ 128 → unit * n ≤ 256
+units-small unit n h k = mul-le-mul h k
+
+-- the data of a type: below 128 a copy, from 128 on a repeat
+
+module _ (unit t : ℕ) where
+  pub data-copy : t < 128 → dataBytes unit t ≡ unit * t
+  unfolding dataBytes
+  data-copy h = simp (lt-ltb t 128 h)
+
+  pub data-repeat : 128 ≤ t → dataBytes unit t ≡ unit
+  unfolding dataBytes
+  data-repeat h = simp (le-ltb t 128 h)
+
+-- the pixels of a packet
+
+module _ (unit : ℕ) (b : List ℕ) (at t : ℕ) where
+  pub pixels-copy : t < 128 → pixels unit b at t ≡ take (unit * t) (drop at b)
+  unfolding pixels
+  pixels-copy h = simp (lt-ltb t 128 h)
+
+  pub pixels-repeat : 128 ≤ t → pixels unit b at t ≡ repeated (256 - t) (take unit (drop at b))
+  unfolding pixels
+  pixels-repeat h = simp (le-ltb t 128 h)
+
+  -- how many they are, where their data lies in b
+  pub length-pixels : at + dataBytes unit t ≤ length b → length (pixels unit b at t) ≡ unit * magnitude t
+  length-pixels h = go (ltb t 128) refl
+    where
+      go : (c : Bool) → ltb t 128 ≡ c → length (pixels unit b at t) ≡ unit * magnitude t
+      go true e =
+          let k = ltb-true t 128 e in
+          ap length (pixels-copy k) ∙ length-take-le (unit * t) (drop at b) (simp length-drop (omega (arith, data-copy unit t k)))
+          ∙ ap (λ (n : ℕ). unit * n) (sym (magnitude-plus t k))
+      go false e =
+          let k = ltb-false t 128 e in
+          ap length (pixels-repeat k) ∙ length-repeated (256 - t) (take unit (drop at b))
+          ∙ ap (λ (n : ℕ). (256 - t) * n) (length-take-le unit (drop at b) (simp length-drop (omega (arith, data-repeat unit t k))))
+          ∙ mul-comm (256 - t) unit ∙ ap (λ (n : ℕ). unit * n) (sym (magnitude-minus t k))
+
+-- a repeat of one pixel, and of a pair
+
+module _ (b : List ℕ) (at t : ℕ) (minus : 128 ≤ t) where
+  pub pixels-one : at < length b → pixels 1 b at t ≡ replicate (256 - t) (getD b at 0)
+  pixels-one h =
+      pixels-repeat 1 b at t minus ∙ ap (λ (l : List ℕ). repeated (256 - t) (take 1 l)) (drop-cons b at 0 h)
+      ∙ repeated-one (256 - t) (getD b at 0)
+
+  pub pixels-pair : at + 1 < length b → pixels 2 b at t ≡ repeated (256 - t) (getD b at 0 ∷ (getD b (at + 1) 0 ∷ []))
+  pixels-pair h =
+      pixels-repeat 2 b at t minus ∙ ap (λ (l : List ℕ). repeated (256 - t) (take 2 l)) (drop-cons b at 0 (omega arith))
+      ∙ ap (λ (l : List ℕ). repeated (256 - t) (getD b at 0 ∷ take 1 l)) (ap (λ (n : ℕ). drop n b) (sym (add-one at)) ∙ drop-cons b (at + 1) 0 h)
+
+-- a packet
+
+module _ (unit w : ℕ) (b : List ℕ) (at x : ℕ) where
+  -- the column of its pixels, its type, and the column after its pixels
+  abbrev from : ℕ
+  from = x + getD b at 0
+
+  abbrev type : ℕ
+  type = getD b (at + 1) 0
+
+  abbrev past : ℕ
+  past = from + unit * magnitude type
+
+  pub packet-cut : length b < at + 2 → packetAt unit w b at x ≡ Fault BodyEnds
+  unfolding packetAt
+  packet-cut h = simp (lt-leb (at + 2) (length b) h)
+
+  pub packet-past : at + 2 ≤ length b → w < past → packetAt unit w b at x ≡ Fault PastWidth
+  unfolding packetAt packetOf
+  packet-past h k = simp (le-leb (at + 2) (length b) h, lt-leb past w k)
+
+  pub packet-short : at + 2 ≤ length b → past ≤ w → length b < at + 2 + dataBytes unit type → packetAt unit w b at x ≡ Fault BodyEnds
+  unfolding packetAt packetOf
+  packet-short h k l =
+      simp (le-leb (at + 2) (length b) h, le-leb past w k, lt-leb (at + 2 + dataBytes unit type) (length b) l)
+
+  pub packet-whole : at + 2 ≤ length b → past ≤ w → at + 2 + dataBytes unit type ≤ length b
+      → packetAt unit w b at x ≡ Pixels type from past (at + 2 + dataBytes unit type)
+  unfolding packetAt packetOf
+  packet-whole h k l =
+      simp (le-leb (at + 2) (length b) h, le-leb past w k, le-leb (at + 2 + dataBytes unit type) (length b) l)
+
+-- a packet that is no fault: its pixels lie in the row, its data in the body
+pub record PacketIn (unit w : ℕ) (b : List ℕ) (at t x next end : ℕ) : Type 0 where
+  pub columns : x + unit * magnitude t ≡ next
+  pub in-row : next ≤ w
+  pub bytes : at + 2 + dataBytes unit t ≡ end
+  pub in-body : end ≤ length b
+
+module _ (unit w : ℕ) (b : List ℕ) (at x t to next end : ℕ) (e : packetAt unit w b at x ≡ Pixels t to next end) where
+  -- a fault is no such packet
+  not-fault : {C : Type 0} {r : Refusal} → packetAt unit w b at x ≡ Fault r → C
+  not-fault f = let z : _≡_ {A = ℕ} 0 1 = cc in absurd (omega arith)
+
+  pub packet-in : PacketIn unit w b at t to next end
+  packet-in =
+      go (leb (at + 2) (length b)) (leb (past unit w b at x) w) (leb (at + 2 + dataBytes unit (type unit w b at x)) (length b)) refl refl refl
+    where
+      go : (p q r : Bool) → leb (at + 2) (length b) ≡ p → leb (past unit w b at x) w ≡ q
+          → leb (at + 2 + dataBytes unit (type unit w b at x)) (length b) ≡ r → PacketIn unit w b at t to next end
+      go true true true h k l =
+          let n = leb-true _ _ k in
+          let m = leb-true _ _ l in
+          let f = packet-whole unit w b at x (leb-true _ _ h) n m in
+          let p : past unit w b at x ≡ next = cc in
+          let q : at + 2 + dataBytes unit (type unit w b at x) ≡ end = cc in
+          record { columns = cc; in-row = omega arith; bytes = cc; in-body = omega arith }
+      go true true false h k l = not-fault (packet-short unit w b at x (leb-true _ _ h) (leb-true _ _ k) (leb-false _ _ l))
+      go true false r h k l = not-fault (packet-past unit w b at x (leb-true _ _ h) (leb-false _ _ k))
+      go false q r h k l = not-fault (packet-cut unit w b at x (leb-false _ _ h))
+
+-- packets
+
+module _ (unit w : ℕ) (b : List ℕ) where
+  packets-step : (n row at x : ℕ) → 0 < n
+      → packets unit w b n row at x ≡ afterPacket unit w b row at (packetAt unit w b at x) (λ at′ x′. packets unit w b (n - 1) row at′ x′)
+  unfolding packets
+  packets-step zero row at x h = absurd (not-suc-le-zero h)
+  packets-step (suc n) row at x h =
+      ap (λ (k : ℕ). afterPacket unit w b row at (packetAt unit w b at x) (λ at′ x′. packets unit w b k row at′ x′)) (sym (sub-one (suc n)))
+
+  pub packets-none : (n row at x : ℕ) → n ≤ 0 → packets unit w b n row at x ≡ ends at
+  unfolding packets
+  packets-none zero row at x h = refl
+  packets-none (suc n) row at x h = absurd (not-suc-le-zero h)
+
+  pub packets-stop : (n row at x : ℕ) → 0 < n → (e : Refusal) → packetAt unit w b at x ≡ Fault e → packets unit w b n row at x ≡ fault e
+  packets-stop n row at x h e q =
+      packets-step n row at x h ∙ ap (λ (p : Packet). afterPacket unit w b row at p (λ at′ x′. packets unit w b (n - 1) row at′ x′)) q
+
+  pub packets-more : (n row at x : ℕ) → 0 < n → (t to next end : ℕ) → packetAt unit w b at x ≡ Pixels t to next end
+      → packets unit w b n row at x ≡ andThen (row * w + to) (pixels unit b (at + 2) t) (packets unit w b (n - 1) row end next)
+  packets-more n row at x h t to next end q =
+      packets-step n row at x h ∙ ap (λ (p : Packet). afterPacket unit w b row at p (λ at′ x′. packets unit w b (n - 1) row at′ x′)) q
+
+  -- what a whole packet writes, and then the packets after it
+  pub packets-played : (n row at x : ℕ) → 0 < n → (t to next end : ℕ) → packetAt unit w b at x ≡ Pixels t to next end → (d : List ℕ)
+      → after d (packets unit w b n row at x) ≡ after (put d (row * w + to) (pixels unit b (at + 2) t)) (packets unit w b (n - 1) row end next)
+  unfolding written
+  packets-played n row at x h t to next end q d = ap (after d) (packets-more n row at x h t to next end q)
+
+  -- the row doesn't bear on how packets come out
+  pub packets-row : (n row at x : ℕ) → packets unit w b n row at x .verdict ≡ packets unit w b n 0 at x .verdict
+  unfolding packets
+  packets-row zero row at x = refl
+  packets-row (suc n) row at x = go (packetAt unit w b at x) (λ at′ x′. packets-row n row at′ x′)
+    where
+      go : (p : Packet) → ((at′ x′ : ℕ) → packets unit w b n row at′ x′ .verdict ≡ packets unit w b n 0 at′ x′ .verdict)
+          → afterPacket unit w b row at p (λ at′ x′. packets unit w b n row at′ x′) .verdict
+          ≡ afterPacket unit w b 0 at p (λ at′ x′. packets unit w b n 0 at′ x′) .verdict
+      go (Fault e) same = refl
+      go (Pixels t to next end) same = same end next
+
+  -- their data ends within the body
+  pub packets-in : (n row at x : ℕ) → at ≤ length b → VerdictIn b (packets unit w b n row at x .verdict)
+  unfolding packets
+  packets-in zero row at x h = h
+  packets-in (suc n) row at x h = go (packetAt unit w b at x) refl (λ at′ x′. packets-in n row at′ x′)
+    where
+      go : (p : Packet) → packetAt unit w b at x ≡ p
+          → ((at′ x′ : ℕ) → at′ ≤ length b → VerdictIn b (packets unit w b n row at′ x′ .verdict))
+          → VerdictIn b (afterPacket unit w b row at p (λ at′ x′. packets unit w b n row at′ x′) .verdict)
+      go (Fault e) q f = tt
+      go (Pixels t to next end) q f = f end next (packet-in unit w b at x t to next end q .in-body)
+
+  -- their writes lie within a picture of h rows
+  pub packets-inside : (h n row at x : ℕ) → row < h → Inside (w * h) (packets unit w b n row at x .writes)
+  unfolding packets
+  packets-inside h zero row at x k = tt
+  packets-inside h (suc n) row at x k = go (packetAt unit w b at x) refl (λ at′ x′. packets-inside h n row at′ x′ k)
+    where
+      go : (p : Packet) → packetAt unit w b at x ≡ p
+          → ((at′ x′ : ℕ) → Inside (w * h) (packets unit w b n row at′ x′ .writes))
+          → Inside (w * h) (afterPacket unit w b row at p (λ at′ x′. packets unit w b n row at′ x′) .writes)
+      go (Fault e) q f = tt
+      go (Pixels t to next end) q f =
+          let i = packet-in unit w b at x t to next end q in
+          (omega (arith, length-pixels unit b (at + 2) t (omega (arith, i .bytes, i .in-body)), i .columns, i .in-row, row-in w h row k), f end next)

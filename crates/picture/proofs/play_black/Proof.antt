@@ -1,0 +1,37 @@
+use Rattle.picture.proofs.Laws.{black-written}
+use Rattle.words.proofs.Laws.{span-length, span-back}
+use native.Mathlib.Omega.{arith}
+use lib.ListN.{replicate, length-replicate}
+use Prim.Native.Nat.{ℕ}
+use mathlib.Core.Path.{ap, sym, _∙_}
+use borrow.Author.Needs.{needs}
+use Rattle.picture.proofs.play_black.Statement.{statement}
+use Rattle.picture.proofs.play_black.Tie as tie
+
+sub-fill : tie.Need-sub-fill
+sub-fill c = search needs
+
+part-fill-start : tie.Need-part-fill-start
+part-fill-start c = search needs
+
+part-fill-end : tie.Need-part-fill-end
+part-fill-end c = search needs
+
+fill-requires : tie.Need-fill-requires
+fill-requires c κs = search needs
+
+same-length : tie.Need-same-length
+same-length c = search needs
+
+returns : tie.Need-returns
+returns c =
+    let a = c .before .before .before .before .before .args in
+    let n = a .n in
+    span-back (a .picture .now) (c .before .before .fill .last .0) (replicate n 0) 0 n n
+    (c .before .before .fill .ensures ∙ ap (λ (k : ℕ). replicate k 0) (span-length (a .picture .now) 0 n n (c .before .before .before .before .before .pre) (omega arith)))
+    (length-replicate n 0) (omega arith)
+    ∙ sym (black-written n (a .picture .now))
+
+pub play-black-spec : {M : Type 1} → statement M
+play-black-spec =
+    tie.close (tie.spec sub-fill part-fill-start part-fill-end fill-requires same-length returns)

@@ -1,0 +1,27 @@
+-- Where bytes lie in a list whose front is known: what reading back goes by.
+use mathlib.Core.Path.{_≡_, sym, ap, ap₂, _∙_}
+use mathlib.Core.List.{List, _++_}
+use Prim.Native.Nat.{ℕ, _+_, _≤_}
+use native.Mathlib.Omega.{arith}
+use lib.ListN.{length, take, drop, getD, length-drop}
+use lib.Seq.{take-at, drop-at, drop-drop, getD-drop}
+use Rattle.words.specs.Writes.{put}
+
+-- where b from offset at on is v and then z
+pub there-drop : (b v z : List ℕ) (at n : ℕ) → drop at b ≡ v ++ z → length v ≡ n → drop (at + n) b ≡ z
+there-drop b v z at n e l = sym (drop-drop n at b) ∙ ap (λ (q : List ℕ). drop n q) e ∙ drop-at v z n l
+
+pub there-take : (b v z : List ℕ) (at n : ℕ) → drop at b ≡ v ++ z → length v ≡ n → take n (drop at b) ≡ v
+there-take b v z at n e l = ap (λ (q : List ℕ). take n q) e ∙ take-at v z n l
+
+pub there-byte : (b z : List ℕ) (at n x : ℕ) → drop at b ≡ z → getD z n 0 ≡ x → getD b (at + n) 0 ≡ x
+there-byte b z at n x e f = sym (getD-drop at b n 0) ∙ ap (λ (q : List ℕ). getD q n 0) e ∙ f
+
+pub there-long : (b z : List ℕ) (at n : ℕ) → drop at b ≡ z → 1 ≤ n → n ≤ length z → at + n ≤ length b
+there-long b z at n e s h = omega (arith, length-drop at b, ap length e)
+
+-- bytes stored in the place of as many
+pub put-at : (a o v z : List ℕ) (at : ℕ) → length a ≡ at → length o ≡ length v → put (a ++ (o ++ z)) at v ≡ a ++ (v ++ z)
+put-at a o v z at la lo =
+    ap₂ (λ (x y : List ℕ). x ++ (v ++ y)) (take-at a (o ++ z) at la)
+    (sym (drop-drop (length v) at (a ++ (o ++ z))) ∙ ap (λ (l : List ℕ). drop (length v) l) (drop-at a (o ++ z) at la) ∙ drop-at o z (length v) lo)
