@@ -9,7 +9,8 @@ use borrow.Author.Tests.{leb-true}
 use lib.Dec.{leb}
 use lib.ListN.{length, getD}
 use Rattle.words.specs.Writes.{Write, written}
-use Rattle.answer.specs.Answer.{number, told, maxWidth, maxHeight, sizeOk}
+use Rattle.words.proofs.Laws.{Inside, inside-append}
+use Rattle.answer.specs.Answer.{number, told, toldWritten, maxWidth, maxHeight, sizeOk}
 use Rattle.answer.specs.Walk.{Walk, onward}
 use Rattle.answer.specs.declared.Refusal.{Refusal}
 use Rattle.answer.specs.declared.Refusal.the-variants.{ShortSlice, BadSize, NoRoom, Cut, WrongType, SmallSize, BodyEnds, ZeroCount, PastWidth, PastHeight, BadWord, PastPalette, OverLevel, BadHeader, FewFrames, BadRing, BadTrailer, WrongTime}
@@ -17,6 +18,8 @@ use Rattle.answer.specs.declared.Verdict.{Verdict}
 use Rattle.answer.specs.declared.Verdict.the-variants.{Ends, Fault}
 use Rattle.answer.specs.declared.Answer.{Answer}
 use Rattle.answer.specs.declared.Answer.the-variants.{Done, Refused}
+use Rattle.answer.specs.declared.Written.{Written}
+use Rattle.answer.specs.declared.Written.the-variants as written
 
 -- no two answers are told alike
 
@@ -62,18 +65,27 @@ told-injective (Refused d at) (Refused e to) p =
     let q : at ≡ to = cc in
     ap₂ (λ (x : Refusal) (y : ℕ). Refused x y) (number-injective d e n) q
 
+pub told-written-injective : (a b : Written) → toldWritten a ≡ toldWritten b → a ≡ b
+told-written-injective (written.Done m) (written.Done n) p = let q : m ≡ n = cc in ap written.Done q
+told-written-injective (written.Done n) (written.Refused e at) p = let z : _≡_ {A = ℕ} 0 1 = cc in absurd (omega arith)
+told-written-injective (written.Refused d at) (written.Done n) p = let z : _≡_ {A = ℕ} 0 1 = cc in absurd (omega arith)
+told-written-injective (written.Refused d at) (written.Refused e to) p =
+    let n : number d ≡ number e = cc in
+    let q : at ≡ to = cc in
+    ap₂ (λ (x : Refusal) (y : ℕ). written.Refused x y) (number-injective d e n) q
+
 -- limits
 
-and-both : (a b : Bool) → (a && b) ≡ true → (a ≡ true) × (b ≡ true)
-and-both true b h = (refl, h)
-and-both false b h = absurd (let z : _≡_ {A = ℕ} 0 1 = cc in omega arith)
+pub both-true : (a b : Bool) → (a && b) ≡ true → (a ≡ true) × (b ≡ true)
+both-true true b h = (refl, h)
+both-true false b h = absurd (let z : _≡_ {A = ℕ} 0 1 = cc in omega arith)
 
 -- a size in range
 pub size-in : (w h : ℕ) → sizeOk w h ≡ true → (1 ≤ w) × (w ≤ maxWidth) × (1 ≤ h) × (h ≤ maxHeight)
 size-in w h e =
-    let p = and-both (leb 1 w) (leb w maxWidth && (leb 1 h && leb h maxHeight)) e in
-    let q = and-both (leb w maxWidth) (leb 1 h && leb h maxHeight) (p .1) in
-    let r = and-both (leb 1 h) (leb h maxHeight) (q .1) in
+    let p = both-true (leb 1 w) (leb w maxWidth && (leb 1 h && leb h maxHeight)) e in
+    let q = both-true (leb w maxWidth) (leb 1 h && leb h maxHeight) (p .1) in
+    let r = both-true (leb 1 h) (leb h maxHeight) (q .1) in
     (leb-true 1 w (p .0), leb-true w maxWidth (q .0), leb-true 1 h (r .0), leb-true h maxHeight (r .1))
 
 pub size-product : (w h : ℕ) → sizeOk w h ≡ true → w * h ≤ 64000
@@ -99,3 +111,9 @@ pub onward-in : (b : List ℕ) (ws : List Write) (v : Verdict) (k : ℕ → Walk
     → ((at : ℕ) → at ≤ length b → VerdictIn b (k at .verdict)) → VerdictIn b (onward ws v k .verdict)
 onward-in b ws (Ends at) k i f = f at i
 onward-in b ws (Fault e) k i f = tt
+
+-- of one walk after another: where the writes of both lie within the first n bytes, so do those of the whole
+pub onward-inside : (n : ℕ) (ws : List Write) (v : Verdict) (k : ℕ → Walk) → Inside n ws
+    → ((at : ℕ) → Inside n (k at .writes)) → Inside n (onward ws v k .writes)
+onward-inside n ws (Ends at) k i f = inside-append n ws (k at .writes) i (f at)
+onward-inside n ws (Fault e) k i f = i

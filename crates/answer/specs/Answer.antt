@@ -1,6 +1,6 @@
 -- Document 01, "Refusal numbers": each answer is done, or a number with a place. Limits and states.
 use Prim.Native.Nat.{ℕ}
-use mathlib.Core.List.{List, []}
+use mathlib.Core.List.{List, [], _∷_}
 use mathlib.Core.Bool.{Bool, _&&_}
 use lib.ListN.{replicate}
 use lib.Dec.{leb}
@@ -8,6 +8,8 @@ use Rattle.answer.specs.declared.Refusal.{Refusal}
 use Rattle.answer.specs.declared.Refusal.the-variants.{ShortSlice, BadSize, NoRoom, Cut, WrongType, SmallSize, BodyEnds, ZeroCount, PastWidth, PastHeight, BadWord, PastPalette, OverLevel, BadHeader, FewFrames, BadRing, BadTrailer, WrongTime}
 use Rattle.answer.specs.declared.Answer.{Answer}
 use Rattle.answer.specs.declared.Answer.the-variants.{Done, Refused}
+use Rattle.answer.specs.declared.Written.{Written}
+use Rattle.answer.specs.declared.Written.the-variants as written
 
 -- the paper's number of each refusal
 abbrev pub number : Refusal → ℕ
@@ -39,6 +41,11 @@ pub data Said : Type 0 where
 abbrev pub told : Answer → Said
 told Done = done []
 told (Refused e place) = refused (number e) place
+
+-- the same of an answer that tells how many bytes were written
+abbrev pub toldWritten : Written → Said
+toldWritten (written.Done length) = done (length ∷ [])
+toldWritten (written.Refused e place) = refused (number e) place
 
 -- "Width is 1 to 320, height 1 to 200"
 abbrev pub maxWidth : ℕ

@@ -1,6 +1,6 @@
 // What a call answers: done, or one of document 01's refusals with a place. Limits of a picture.
 ghost use mathlib.Core.Path.{_≡_};
-ghost use Rattle.answer.specs.Answer.{sizeOk};
+ghost use Rattle.answer.specs.Answer.{number, sizeOk};
 
 // Limits of a picture (document 01, "What the boards need").
 pub const MAX_WIDTH: usize = 320;
@@ -78,6 +78,12 @@ pub enum Answer {
     Refused(Refusal, usize),
 }
 
+// Done with so many bytes written, or a refusal with its place.
+pub enum Written {
+    Done(usize),
+    Refused(Refusal, usize),
+}
+
 // Whether a picture may have this width and height.
 pub fn size_ok(width: usize, height: usize) -> bool
     ensures { λ r. ⌜ r ≡ sizeOk width height ⌝ }
@@ -92,4 +98,30 @@ pub fn size_ok(width: usize, height: usize) -> bool
         return false;
     }
     height <= MAX_HEIGHT
+}
+
+// The number of a refusal.
+pub fn number_of(e: Refusal) -> u32
+    ensures { λ r. ⌜ r ≡ number e ⌝ }
+{
+    match e {
+        Refusal::ShortSlice => 1,
+        Refusal::BadSize => 2,
+        Refusal::NoRoom => 3,
+        Refusal::Cut => 4,
+        Refusal::WrongType => 5,
+        Refusal::SmallSize => 6,
+        Refusal::BodyEnds => 7,
+        Refusal::ZeroCount => 8,
+        Refusal::PastWidth => 9,
+        Refusal::PastHeight => 10,
+        Refusal::BadWord => 11,
+        Refusal::PastPalette => 12,
+        Refusal::OverLevel => 13,
+        Refusal::BadHeader => 14,
+        Refusal::FewFrames => 15,
+        Refusal::BadRing => 16,
+        Refusal::BadTrailer => 17,
+        Refusal::WrongTime => 18,
+    }
 }

@@ -1,14 +1,14 @@
 -- Laws of the definitions in specs/ that the proofs of the readers cite.
 use mathlib.Core.Path.{_≡_, ap, _∙_, sym, refl, subst, ap₂}
-use mathlib.Core.List.{List, [], _∷_, _++_, map, append-nil}
+use mathlib.Core.List.{List, [], _∷_, map}
 use mathlib.Core.Bool.{Bool, true, false, _&&_}
 use Prim.Native.Nat.{ℕ, suc, zero, _≤_, _<_, _+_, _-_, _*_}
 use native.Mathlib.Nat.{le-of-suc-le-suc, not-suc-le-zero}
 use native.Mathlib.Numerals.{add-one, sub-one}
 use native.Mathlib.Omega.{arith}
 use borrow.Author.Tests.{le-leb, lt-leb, leb-true}
-use lib.ListN.{length, drop, take, set, getD, length-map, length-drop, drop-of-length-le}
-use lib.Seq.{length-take-le, take-all}
+use lib.ListN.{length, drop, take, getD, length-map, length-drop, drop-of-length-le}
+use lib.Seq.{length-take-le}
 use lib.Dec.{leb}
 use Rattle.words.specs.Words.{pick, u16At}
 use Rattle.words.specs.Writes.{put, written}
@@ -58,18 +58,6 @@ unfolding levelsOk
 level-small [] i h k = absurd (not-suc-le-zero k)
 level-small (x ∷ xs) zero h k = leb-true x 63 (and-left (leb x 63) (levelsOk true xs) h)
 level-small (x ∷ xs) (suc i) h k = level-small xs i (and-right (leb x 63) (levelsOk true xs) h) (le-of-suc-le-suc k)
-
-map-store : (f : ℕ → ℕ) (i : ℕ) (s d : List ℕ) → i < length s → i < length d
-    → set (map f (take i s) ++ drop i d) i (f (getD s i 0)) ≡ map f (take (suc i) s) ++ drop (suc i) d
-map-store f i [] d h k = absurd (not-suc-le-zero h)
-map-store f i (x ∷ xs) [] h k = absurd (not-suc-le-zero k)
-map-store f zero (x ∷ xs) (y ∷ ys) h k = refl
-map-store f (suc i) (x ∷ xs) (y ∷ ys) h k =
-    ap (λ (l : List ℕ). f x ∷ l) (map-store f i xs ys (le-of-suc-le-suc h) (le-of-suc-le-suc k))
-
-pub map-more : (f : ℕ → ℕ) (i : ℕ) (s d : List ℕ) → i < length s → i < length d
-    → set (map f (take i s) ++ drop i d) i (f (getD s i 0)) ≡ map f (take (i + 1) s) ++ drop (i + 1) d
-map-more f i s d h k = rw add-one (map-store f i s d h k)
 
 -- a packet
 
@@ -178,13 +166,9 @@ pub levels-none : (six : Bool) (xs : List ℕ) (i : ℕ) → length xs ≤ i →
 unfolding levelsOk
 levels-none six xs i h = ap (levelsOk six) (drop-of-length-le xs h)
 
-pub map-same : (xs : List ℕ) → map (level false) xs ≡ xs
+pub level-same : (x : ℕ) → level false x ≡ x
 unfolding level
-map-same [] = refl
-map-same (x ∷ xs) = ap (λ (l : List ℕ). x ∷ l) (map-same xs)
-
-pub mapped-all : (f : ℕ → ℕ) (i : ℕ) (s d : List ℕ) → length s ≤ i → length d ≤ i → map f (take i s) ++ drop i d ≡ map f s
-mapped-all f i s d h k = ap₂ (λ (x y : List ℕ). map f x ++ y) (take-all i s h) (drop-of-length-le d k) ∙ append-nil (map f s)
+level-same x = refl
 
 -- the whole body: its data ends within it, and its writes lie in the palette
 

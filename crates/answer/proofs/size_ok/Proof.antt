@@ -1,3 +1,4 @@
+-- `size_ok` meets its contract: each early return decides the test that it stands for, and those before it hold.
 use borrow.Author.Tests.{le-leb, lt-leb}
 use Rattle.answer.proofs.size_ok.Statement.{statement}
 use Rattle.answer.proofs.size_ok.Tie as tie

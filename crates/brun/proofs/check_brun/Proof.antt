@@ -1,3 +1,4 @@
+-- `check_brun` meets its contract. The invariant: all rows come out as the rows that are left do from here on.
 use Rattle.brun.proofs.Laws.{brun-verdict, row-ends, rows-none, rows-stop, rows-more}
 use borrow.Author.Needs.{needs}
 use Rattle.brun.specs.Brun.{Run, rows}

@@ -1,3 +1,4 @@
+-- `check_row` meets its contract. The invariant: the row comes out as its packets from here on do, with the columns that are left.
 use borrow.Author.Needs.{needs}
 use Rattle.brun.proofs.Laws.{PacketIn, packet-in, row-cut, row-open, packets-stop, packets-more, packets-none}
 use Rattle.brun.specs.declared.Packet.the-variants.{Pixels}

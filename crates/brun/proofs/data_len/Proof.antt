@@ -1,3 +1,4 @@
+-- `data_len` meets its contract: below 128 a repeat has one pixel, from 128 on a copy has all of its own.
 use Rattle.brun.proofs.Laws.{data-copy, data-repeat}
 use native.Mathlib.Omega.{arith}
 use Prim.Native.Nat.{ℕ, _-_}

@@ -1,3 +1,4 @@
+-- `packet_at` meets its contract: each return is the case of the definition that its tests select.
 use Rattle.brun.proofs.Laws.{packet-cut, packet-zero, packet-past, packet-short, packet-whole}
 use native.Mathlib.Omega.{arith}
 use mathlib.Core.Path.{sym}

@@ -1,3 +1,4 @@
+-- `play_brun` meets its contract. The invariant: all pixels put at the front are those of the rows left, put from this row on.
 use Rattle.brun.proofs.Laws.{shown, brun-written, row-ends, rows-none, rows-stop, rows-played}
 use Rattle.brun.specs.Brun.{rows}
 use Rattle.answer.proofs.Laws.{VerdictIn}

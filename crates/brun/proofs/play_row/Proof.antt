@@ -1,3 +1,4 @@
+-- `play_row` meets its contract. The invariant: the row's pixels put from its place on are those of the packets left, put from here on.
 use borrow.Author.Needs.{needs}
 use Rattle.brun.proofs.Laws.{PacketIn, packet-in, row-cut, row-open, packets-stop, packets-more, packets-none, length-pixels}
 use Rattle.brun.specs.declared.Packet.the-variants.{Pixels}

@@ -1,3 +1,4 @@
+-- `put_pixels` meets its contract: a repeat fills the part, a copy copies as many bytes.
 use Rattle.brun.proofs.Laws.{data-copy, data-repeat, pixels-copy, pixels-repeat}
 use Rattle.words.proofs.Laws.{magnitude-plus, magnitude-minus, span-length}
 use lib.ListN.{take, drop, getD, replicate}

@@ -1,3 +1,4 @@
+-- `check_colour` meets its contract. The invariant: the body comes out as the packets that are left do from here on.
 use borrow.Author.Needs.{needs}
 use mathlib.Core.Path.{_≡_, ap, _∙_, sym}
 use Prim.Native.Nat.{_≤_, _-_}

@@ -1,3 +1,4 @@
+-- `count_of` meets its contract: 0 means 256, and any other count itself.
 use Rattle.colour.specs.Colour.{countOf}
 use Rattle.colour.proofs.Laws.{count-pos}
 use borrow.Author.Needs.{needs}

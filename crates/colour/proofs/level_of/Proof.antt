@@ -1,3 +1,4 @@
+-- `level_of` meets its contract: four times a level of at most 63 fits a byte.
 use mathlib.Core.Path.{refl}
 use Rattle.colour.specs.Colour.{level}
 use borrow.Author.Needs.{needs}

@@ -1,3 +1,4 @@
+-- `levels_ok` meets its contract. The invariant: all components are in range if those from i on are.
 use borrow.Author.Needs.{needs}
 use mathlib.Core.Path.{_≡_, _∙_, sym}
 use Prim.Native.Nat.{_≤_, _-_}

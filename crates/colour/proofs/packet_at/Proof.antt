@@ -1,3 +1,4 @@
+-- `packet_at` meets its contract: its two bytes give the packet, and each return is the case that its tests select.
 use mathlib.Core.Path.{_≡_, ap, _∙_, sym}
 use Prim.Native.Nat.{ℕ, _-_, _+_, _*_}
 use native.Mathlib.Omega.{arith}

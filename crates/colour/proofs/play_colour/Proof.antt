@@ -1,3 +1,4 @@
+-- `play_colour` meets its contract. The invariant: all writes on the palette as found are those of the packets left on the palette as it is.
 use borrow.Author.Needs.{needs}
 use mathlib.Core.Path.{_≡_, ap, _∙_, sym, refl}
 use mathlib.Core.List.{List, map}

@@ -1,4 +1,6 @@
-use Rattle.colour.proofs.Laws.{level-small, map-more, mapped-all}
+-- `put_raised` meets its contract. The invariant: the first i components are raised, the rest as found.
+use Rattle.words.proofs.Runs.{map-more, mapped-all}
+use Rattle.colour.proofs.Laws.{level-small}
 use Rattle.colour.specs.Colour.{level}
 use lib.ListN.{length, drop, take, set, length-set}
 use native.Mathlib.Omega.{arith}

@@ -1,3 +1,4 @@
+-- `check_copy` meets its contract: the one test is that of the definition.
 use Rattle.picture.proofs.Laws.{copied-whole, copied-short}
 use Rattle.answer.specs.Walk.{Walk}
 use mathlib.Core.Path.{ap, sym}

@@ -1,3 +1,4 @@
+-- `play_black` meets its contract: the first n pixels come back filled with 0.
 use Rattle.picture.proofs.Laws.{black-written}
 use Rattle.words.proofs.Laws.{span-length, span-back}
 use native.Mathlib.Omega.{arith}

@@ -1,3 +1,4 @@
+-- `play_copy` meets its contract: the first n pixels come back as the body's; a body too short writes nothing.
 use Rattle.picture.proofs.Laws.{copied-whole, copied-short}
 use Rattle.answer.specs.Walk.{Walk}
 use Rattle.words.proofs.Laws.{span-back}

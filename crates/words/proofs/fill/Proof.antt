@@ -1,4 +1,4 @@
--- `fill` meets its contract. The invariant: the first i bytes are set. Assumes nothing.
+-- `fill` meets its contract. The invariant: the first i bytes are set.
 use Prim.Native.Nat.{_≤_, _-_}
 use mathlib.Core.Path.{_≡_, sym, _∙_}
 use native.Mathlib.Omega.{arith}

@@ -1,3 +1,4 @@
+-- `u16_at` meets its contract: the two bytes are those of the word.
 use borrow.Author.Needs.{needs}
 use Rattle.words.specs.Words.{u16At}
 use Rattle.words.proofs.u16_at.Statement.{statement}

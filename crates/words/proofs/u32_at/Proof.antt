@@ -1,3 +1,4 @@
+-- `u32_at` meets its contract: the two halves are those of the word.
 use borrow.Author.Needs.{needs}
 use Rattle.words.specs.Words.{u32At}
 use Rattle.words.proofs.u32_at.Statement.{statement}

@@ -1,0 +1,211 @@
+-- What holds of reading a frame, for every input, beside the equation that the contract of `read_frame` states:
+-- 1. whether a frame is accepted, and with which refusal and place, doesn't depend on the picture and palette (`said-regardless`);
+-- 2. nothing changes outside width times height pixels and 768 palette bytes (`picture-kept`, `palette-kept`);
+-- 3. a place is never past the bytes (`place-within`).
+-- The idea: a walk's answer is found without a state, its writes lie within the picture and the palette, and it stands only where a chunk begins.
+use mathlib.Core.Path.{_≡_, refl, sym, _∙_, subst}
+use mathlib.Core.List.{List, _++_}
+use mathlib.Core.Bool.{Bool, true, false}
+use Prim.Native.Nat.{ℕ, zero, suc, _≤_, _+_, _*_}
+use native.Mathlib.Omega.{arith}
+use borrow.Author.Tests.{le-leb, leb-true}
+use lib.Dec.{leb, eqb}
+use lib.ListN.{length, take, drop, length-append, length-take, length-drop}
+use lib.Seq.{length-take-le, drop-at}
+use Rattle.words.specs.Words.{pick, part}
+use Rattle.words.specs.Writes.{Write, written}
+use Rattle.words.proofs.Laws.{Inside, inside-append, length-written}
+use Rattle.answer.specs.Format.{FLI-COLOR256, FLI-SS2, FLI-COLOR, FLI-LC, FLI-BLACK, FLI-BRUN, FLI-COPY}
+use Rattle.answer.specs.Answer.{Said, done, refused, sizeOk}
+use Rattle.answer.specs.declared.Refusal.the-variants.{ShortSlice, BadSize}
+use Rattle.answer.specs.declared.Verdict.{Verdict}
+use Rattle.answer.specs.declared.Verdict.the-variants as verdict
+use Rattle.answer.specs.declared.Answer.{Answer}
+use Rattle.answer.specs.declared.Answer.the-variants.{Done, Refused}
+use Rattle.answer.proofs.Laws.{size-in, both-true}
+use Rattle.colour.specs.Colour.{colour}
+use Rattle.colour.proofs.Laws.{colour-inside}
+use Rattle.picture.specs.Picture.{black, copied}
+use Rattle.picture.proofs.Laws.{black-inside, copied-inside}
+use Rattle.brun.specs.Brun.{brun}
+use Rattle.brun.proofs.Laws.{brun-inside}
+use Rattle.lc.specs.Lc.{lc}
+use Rattle.lc.proofs.Laws.{lc-inside}
+use Rattle.ss2.specs.Ss2.{ss2}
+use Rattle.ss2.proofs.Laws.{ss2-inside}
+use Rattle.frame.specs.Frame.{ChunkWalk, onPicture, onPalette, skipped, subChunk, headerAt, settle, afterHeader, subChunks, frameHeader, afterFrameHeader, frame}
+use Rattle.frame.specs.Reading.{outcome, enough, settled, readFrame}
+use Rattle.frame.specs.declared.FrameHeader.{FrameHeader}
+use Rattle.frame.specs.declared.FrameHeader.the-variants as whole
+use Rattle.frame.specs.declared.Header.{Header}
+use Rattle.frame.specs.declared.Header.the-variants.{Fault, Chunk}
+use Rattle.frame.proofs.Laws.{HeaderIn, header-in, FrameIn, frame-in}
+
+-- 1. the answer
+
+module _ (b : List ℕ) (w h : ℕ) (p q p′ q′ : List ℕ) (pn : w * h ≤ length p) (qn : 768 ≤ length q) (pn′ : w * h ≤ length p′) (qn′ : 768 ≤ length q′) where
+  pub said-regardless : readFrame b w h p q .said ≡ readFrame b w h p′ q′ .said
+  unfolding readFrame
+  said-regardless =
+      rw (le-leb (w * h) (length p) pn, le-leb 768 (length q) qn, le-leb (w * h) (length p′) pn′, le-leb 768 (length q′) qn′)
+      (go (sizeOk w h) (frame w h b .answer))
+    where
+      go : (c : Bool) (a : Answer)
+          → pick c (settled (w * h) (frame w h b) a p q) (outcome (Refused BadSize 0) p q) .said
+          ≡ pick c (settled (w * h) (frame w h b) a p′ q′) (outcome (Refused BadSize 0) p′ q′) .said
+      go false a = refl
+      go true Done = refl
+      go true (Refused e at) = refl
+
+-- 2. what changes
+
+-- writes that lie within a picture of n pixels and a palette
+record Within (n : ℕ) (pixels colours : List Write) : Type 0 where
+  pub in-picture : Inside n pixels
+  pub in-palette : Inside 768 colours
+
+module _ (w h : ℕ) (some : 1 ≤ w) where
+  -- the walk that the tests of the kind select
+  abbrev picked : List ℕ → Bool → Bool → Bool → Bool → Bool → Bool → Bool → ChunkWalk
+  picked b c4 c7 c11 c12 c13 c15 c16 =
+      pick c4 (onPalette (colour false b))
+      (pick c7 (onPicture (ss2 w h b))
+      (pick c11 (onPalette (colour true b))
+      (pick c12 (onPicture (lc w h b))
+      (pick c13 (onPicture (black (w * h)))
+      (pick c15 (onPicture (brun w h b))
+      (pick c16 (onPicture (copied (w * h) b))
+      (skipped b)))))))
+
+  chunk-within : (kind : ℕ) (b : List ℕ) → Within (w * h) (subChunk w h kind b .pixels) (subChunk w h kind b .colours)
+  unfolding subChunk
+  chunk-within kind b =
+      go (eqb kind FLI-COLOR256) (eqb kind FLI-SS2) (eqb kind FLI-COLOR) (eqb kind FLI-LC) (eqb kind FLI-BLACK) (eqb kind FLI-BRUN) (eqb kind FLI-COPY)
+    where
+      go : (c4 c7 c11 c12 c13 c15 c16 : Bool) → Within (w * h) (picked b c4 c7 c11 c12 c13 c15 c16 .pixels) (picked b c4 c7 c11 c12 c13 c15 c16 .colours)
+      go true c7 c11 c12 c13 c15 c16 = record { in-picture = tt; in-palette = colour-inside false b }
+      go false true c11 c12 c13 c15 c16 = record { in-picture = ss2-inside w h b some; in-palette = tt }
+      go false false true c12 c13 c15 c16 = record { in-picture = tt; in-palette = colour-inside true b }
+      go false false false true c13 c15 c16 = record { in-picture = lc-inside w h b; in-palette = tt }
+      go false false false false true c15 c16 = record { in-picture = black-inside (w * h); in-palette = tt }
+      go false false false false false true c16 = record { in-picture = brun-inside w h b; in-palette = tt }
+      go false false false false false false true = record { in-picture = copied-inside (w * h) b; in-palette = tt }
+      go false false false false false false false = record { in-picture = tt; in-palette = tt }
+
+  chunks-within : (b : List ℕ) (n at : ℕ) → Within (w * h) (subChunks w h b n at .pixels) (subChunks w h b n at .colours)
+  unfolding subChunks
+  chunks-within b zero at = record { in-picture = tt; in-palette = tt }
+  chunks-within b (suc n) at = go (headerAt b at) (λ end. chunks-within b n end)
+    where
+      go : (x : Header) → ((end : ℕ) → Within (w * h) (subChunks w h b n end .pixels) (subChunks w h b n end .colours))
+          → Within (w * h) (afterHeader w h b at x (λ end. subChunks w h b n end) .pixels) (afterHeader w h b at x (λ end. subChunks w h b n end) .colours)
+      go (Fault e) rest = record { in-picture = tt; in-palette = tt }
+      go (Chunk kind end) rest =
+          let k = subChunk w h kind (part b (at + 6) end) in
+          let c = chunk-within kind (part b (at + 6) end) in
+          record {
+            in-picture = inside-append (w * h) (k .pixels) (subChunks w h b n end .pixels) (c .in-picture) (rest end .in-picture);
+            in-palette = inside-append 768 (k .colours) (subChunks w h b n end .colours) (c .in-palette) (rest end .in-palette);
+          }
+
+  frame-within : (b : List ℕ) → Within (w * h) (frame w h b .pixels) (frame w h b .colours)
+  unfolding frame
+  frame-within b = go (frameHeader b)
+    where
+      go : (x : FrameHeader) → Within (w * h) (afterFrameHeader w h b x .pixels) (afterFrameHeader w h b x .colours)
+      go (whole.Fault e) = record { in-picture = tt; in-palette = tt }
+      go (whole.Frame count size) = chunks-within (take size b) count 16
+
+-- as long as before, and unchanged from index n on
+pub record Kept (n : ℕ) (old new : List ℕ) : Type 0 where
+  pub long : length new ≡ length old
+  pub rest : drop n new ≡ drop n old
+
+kept-same : (n : ℕ) (d : List ℕ) → Kept n d d
+kept-same n d = record { long = refl; rest = refl }
+
+-- the first n bytes written on
+kept-front : (n : ℕ) (d : List ℕ) (ws : List Write) → n ≤ length d → Inside n ws → Kept n d (written ws (take n d) ++ drop n d)
+kept-front n d ws h i =
+    let front = length-take-le n d h in
+    let e : length (written ws (take n d)) ≡ n = length-written ws (take n d) (subst (λ (m : ℕ). Inside m ws) (sym front) i) ∙ front in
+    record {
+      long = omega (arith, length-append (written ws (take n d)) (drop n d), length-drop n d);
+      rest = drop-at (written ws (take n d)) (drop n d) n e;
+    }
+
+module _ (b : List ℕ) (w h : ℕ) (p q : List ℕ) where
+  kept : Kept (w * h) p (readFrame b w h p q .picture) × Kept 768 q (readFrame b w h p q .palette)
+  unfolding readFrame
+  kept = go (sizeOk w h) refl (enough (w * h) p q) refl (frame w h b .answer)
+    where
+      go : (c : Bool) → sizeOk w h ≡ c → (d : Bool) → enough (w * h) p q ≡ d → (a : Answer)
+          → Kept (w * h) p (pick c (pick d (settled (w * h) (frame w h b) a p q) (outcome (Refused ShortSlice 0) p q)) (outcome (Refused BadSize 0) p q) .picture)
+          × Kept 768 q (pick c (pick d (settled (w * h) (frame w h b) a p q) (outcome (Refused ShortSlice 0) p q)) (outcome (Refused BadSize 0) p q) .palette)
+      go false s d e a = (kept-same (w * h) p, kept-same 768 q)
+      go true s false e a = (kept-same (w * h) p, kept-same 768 q)
+      go true s true e (Refused r at) = (kept-same (w * h) p, kept-same 768 q)
+      go true s true e Done =
+          let i = frame-within w h (size-in w h s .0) b in
+          let n = both-true (leb (w * h) (length p)) (leb 768 (length q)) e in (
+            kept-front (w * h) p (frame w h b .pixels) (leb-true (w * h) (length p) (n .0)) (i .in-picture),
+            kept-front 768 q (frame w h b .colours) (leb-true 768 (length q) (n .1)) (i .in-palette),
+          )
+
+  pub picture-kept : Kept (w * h) p (readFrame b w h p q .picture)
+  picture-kept = kept .0
+
+  pub palette-kept : Kept 768 q (readFrame b w h p q .palette)
+  palette-kept = kept .1
+
+-- 3. the place
+
+-- the place of an answer is not past b
+abbrev PlaceIn : List ℕ → Answer → Type 0
+PlaceIn b Done = Unit {0}
+PlaceIn b (Refused e at) = at ≤ length b
+
+place-settle : (b : List ℕ) (at : ℕ) (v : Verdict) (a : Answer) → at ≤ length b → PlaceIn b a → PlaceIn b (settle at v a)
+place-settle b at (verdict.Ends end) a h i = i
+place-settle b at (verdict.Fault e) a h i = h
+
+chunks-place : (w h : ℕ) (b : List ℕ) (n at : ℕ) → at ≤ length b → PlaceIn b (subChunks w h b n at .answer)
+unfolding subChunks
+chunks-place w h b zero at i = tt
+chunks-place w h b (suc n) at i = go (headerAt b at) (header-in b at _ refl) (λ end k. chunks-place w h b n end k)
+  where
+    go : (x : Header) → HeaderIn b at x → ((end : ℕ) → end ≤ length b → PlaceIn b (subChunks w h b n end .answer))
+        → PlaceIn b (afterHeader w h b at x (λ end. subChunks w h b n end) .answer)
+    go (Fault e) k rest = i
+    go (Chunk kind end) k rest = place-settle b at (subChunk w h kind (part b (at + 6) end) .verdict) (subChunks w h b n end .answer) i (rest end (k .1))
+
+place-front : (b : List ℕ) (n : ℕ) (a : Answer) → PlaceIn (take n b) a → PlaceIn b a
+place-front b n Done i = tt
+place-front b n (Refused e at) i = omega (arith, length-take n b)
+
+frame-place : (w h : ℕ) (b : List ℕ) → PlaceIn b (frame w h b .answer)
+unfolding frame
+frame-place w h b = go (frameHeader b) (frame-in b _ refl)
+  where
+    go : (x : FrameHeader) → FrameIn b x → PlaceIn b (afterFrameHeader w h b x .answer)
+    go (whole.Fault e) i = omega arith
+    go (whole.Frame count size) i =
+        place-front b size (subChunks w h (take size b) count 16 .answer) (chunks-place w h (take size b) count 16 (omega (arith, length-take-le size b (i .1), i .0)))
+
+-- a refusal's place is not past b
+abbrev SaidIn : List ℕ → Said → Type 0
+SaidIn b (done v) = Unit {0}
+SaidIn b (refused n place) = place ≤ length b
+
+module _ (b : List ℕ) (w h : ℕ) (p q : List ℕ) where
+  pub place-within : (n place : ℕ) → readFrame b w h p q .said ≡ refused n place → place ≤ length b
+  unfolding readFrame
+  place-within n place e =
+      subst (SaidIn b) e (go (sizeOk w h) (enough (w * h) p q) (frame w h b .answer) (frame-place w h b))
+    where
+      go : (c d : Bool) (a : Answer) → PlaceIn b a
+          → SaidIn b (pick c (pick d (settled (w * h) (frame w h b) a p q) (outcome (Refused ShortSlice 0) p q)) (outcome (Refused BadSize 0) p q) .said)
+      go false d a i = omega arith
+      go true false a i = omega arith
+      go true true Done i = tt
+      go true true (Refused r at) i = i

@@ -1,0 +1,223 @@
+// Reading one frame: document 01, "Frames, chunks and rows".
+// A first pass checks all of it and writes nothing, a second does its writes.
+ghost use mathlib.Core.Path.{_≡_};
+ghost use Prim.Native.Nat.{_≤_};
+ghost use lib.ListN.{length};
+ghost use Rattle.words.specs.Writes.{written};
+ghost use Rattle.answer.specs.Answer.{maxWidth, maxHeight};
+ghost use Rattle.frame.specs.Frame.{subChunk, headerAt, subChunks, frameHeader, frame};
+ghost use Rattle.frame.specs.Reading.{Room, outcome, readFrame};
+
+// A sub-chunk's header: its first fault, or its kind and the offset of its end.
+pub enum Header {
+    Fault(answer::Refusal),
+    Chunk { kind: usize, end: usize },
+}
+
+// A frame's header: its first fault, or how many sub-chunks it has and its size.
+pub enum FrameHeader {
+    Fault(answer::Refusal),
+    Frame { count: usize, size: usize },
+}
+
+// The sub-chunk's header at offset at.
+pub fn header_at(b: &[u8], at: usize) -> Header
+    requires { ⌜ at ≤ length (now b) ⌝ }
+    ensures { λ r. ⌜ r ≡ headerAt (now (b .entry)) at ⌝ }
+{
+    if b.len() - at < 6 {
+        return Header::Fault(answer::Refusal::Cut);
+    }
+    let size = words::u32_at(b, at);
+    if size < 6 {
+        return Header::Fault(answer::Refusal::SmallSize);
+    }
+    if b.len() - at < size {
+        return Header::Fault(answer::Refusal::Cut);
+    }
+    Header::Chunk {
+        kind: words::u16_at(b, at + 4),
+        end: at + size,
+    }
+}
+
+// The frame's header.
+pub fn frame_header(b: &[u8]) -> FrameHeader
+    ensures { λ r. ⌜ r ≡ frameHeader (now (b .entry)) ⌝ }
+{
+    if b.len() < 16 {
+        return FrameHeader::Fault(answer::Refusal::Cut);
+    }
+    if words::u16_at(b, 4) != answer::FRAME_TYPE {
+        return FrameHeader::Fault(answer::Refusal::WrongType);
+    }
+    let size = words::u32_at(b, 0);
+    if size < 16 {
+        return FrameHeader::Fault(answer::Refusal::SmallSize);
+    }
+    if b.len() < size {
+        return FrameHeader::Fault(answer::Refusal::Cut);
+    }
+    FrameHeader::Frame {
+        count: words::u16_at(b, 6),
+        size,
+    }
+}
+
+// How a sub-chunk's body comes out.
+fn check_chunk(kind: usize, body: &[u8], width: usize, height: usize) -> answer::Verdict
+    requires { ⌜ (width ≤ maxWidth) × (height ≤ maxHeight) ⌝ }
+    ensures { λ r. ⌜ r ≡ subChunk width height kind (now (body .entry)) .verdict ⌝ }
+{
+    match kind {
+        answer::FLI_COLOR256 => colour::check_colour(body, false),
+        answer::FLI_SS2 => ss2::check_ss2(body, width, height),
+        answer::FLI_COLOR => colour::check_colour(body, true),
+        answer::FLI_LC => lc::check_lc(body, width, height),
+        answer::FLI_BLACK => answer::Verdict::Ends(0),
+        answer::FLI_BRUN => brun::check_brun(body, width, height),
+        answer::FLI_COPY => picture::check_copy(body, width * height),
+        _ => answer::Verdict::Ends(body.len()),
+    }
+}
+
+// Does a sub-chunk's writes.
+fn play_chunk(
+    picture: &mut [u8],
+    palette: &mut [u8],
+    kind: usize,
+    body: &[u8],
+    width: usize,
+    height: usize,
+)
+    requires { ⌜ Room width height (now picture) (now palette) ⌝ }
+    ensures pixels { λ _. ⌜ now (picture .exit) ≡ written (subChunk width height kind (now (body .entry)) .pixels) (now (picture .entry)) ⌝ }
+    ensures colours { λ _. ⌜ now (palette .exit) ≡ written (subChunk width height kind (now (body .entry)) .colours) (now (palette .entry)) ⌝ }
+{
+    match kind {
+        answer::FLI_COLOR256 => colour::play_colour(palette, body, false),
+        answer::FLI_SS2 => ss2::play_ss2(picture, body, width, height),
+        answer::FLI_COLOR => colour::play_colour(palette, body, true),
+        answer::FLI_LC => lc::play_lc(picture, body, width, height),
+        answer::FLI_BLACK => picture::play_black(picture, width * height),
+        answer::FLI_BRUN => brun::play_brun(picture, body, width, height),
+        answer::FLI_COPY => picture::play_copy(picture, body, width * height),
+        _ => {}
+    }
+}
+
+// Checks count sub-chunks from offset 16 on.
+fn check_chunks(b: &[u8], width: usize, height: usize, count: usize) -> answer::Answer
+    requires { ⌜ (16 ≤ length (now b)) × (width ≤ maxWidth) × (height ≤ maxHeight) ⌝ }
+    ensures { λ r. ⌜ r ≡ subChunks width height (now (b .entry)) count 16 .answer ⌝ }
+{
+    let mut at = 16;
+    let mut left = count;
+    while left > 0 {
+        match header_at(b, at) {
+            Header::Fault(e) => {
+                return answer::Answer::Refused(e, at);
+            }
+            Header::Chunk { kind, end } => match check_chunk(kind, &b[at + 6..end], width, height) {
+                answer::Verdict::Fault(e) => {
+                    return answer::Answer::Refused(e, at);
+                }
+                answer::Verdict::Ends(_) => {
+                    at = end;
+                }
+            },
+        }
+        left = left - 1;
+    }
+    answer::Answer::Done
+}
+
+// Plays count sub-chunks from offset 16 on.
+fn play_chunks(
+    picture: &mut [u8],
+    palette: &mut [u8],
+    b: &[u8],
+    width: usize,
+    height: usize,
+    count: usize,
+)
+    requires { ⌜ (16 ≤ length (now b)) × Room width height (now picture) (now palette) ⌝ }
+    ensures pixels { λ _. ⌜ now (picture .exit) ≡ written (subChunks width height (now (b .entry)) count 16 .pixels) (now (picture .entry)) ⌝ }
+    ensures colours { λ _. ⌜ now (palette .exit) ≡ written (subChunks width height (now (b .entry)) count 16 .colours) (now (palette .entry)) ⌝ }
+{
+    let mut at = 16;
+    let mut left = count;
+    while left > 0 {
+        match header_at(b, at) {
+            Header::Fault(_) => {
+                return;
+            }
+            Header::Chunk { kind, end } => {
+                play_chunk(picture, palette, kind, &b[at + 6..end], width, height);
+                at = end;
+            }
+        }
+        left = left - 1;
+    }
+}
+
+// Checks a whole frame.
+pub fn check_frame(b: &[u8], width: usize, height: usize) -> answer::Answer
+    requires { ⌜ (width ≤ maxWidth) × (height ≤ maxHeight) ⌝ }
+    ensures { λ r. ⌜ r ≡ frame width height (now (b .entry)) .answer ⌝ }
+{
+    match frame_header(b) {
+        FrameHeader::Fault(e) => answer::Answer::Refused(e, 0),
+        FrameHeader::Frame { count, size } => check_chunks(&b[0..size], width, height, count),
+    }
+}
+
+// Does the writes of a frame; of one whose header is at fault, none.
+pub fn play_frame(picture: &mut [u8], palette: &mut [u8], b: &[u8], width: usize, height: usize)
+    requires { ⌜ Room width height (now picture) (now palette) ⌝ }
+    ensures pixels { λ _. ⌜ now (picture .exit) ≡ written (frame width height (now (b .entry)) .pixels) (now (picture .entry)) ⌝ }
+    ensures colours { λ _. ⌜ now (palette .exit) ≡ written (frame width height (now (b .entry)) .colours) (now (palette .entry)) ⌝ }
+{
+    match frame_header(b) {
+        FrameHeader::Fault(_) => {}
+        FrameHeader::Frame { count, size } => {
+            play_chunks(picture, palette, &b[0..size], width, height, count);
+        }
+    }
+}
+
+// Reads one frame against the picture and palette that show.
+pub fn read_frame(
+    bytes: &[u8],
+    width: usize,
+    height: usize,
+    picture: &mut [u8],
+    palette: &mut [u8],
+) -> answer::Answer
+    ensures { λ r. ⌜ outcome r (now (picture .exit)) (now (palette .exit)) ≡ readFrame (now (bytes .entry)) width height (now (picture .entry)) (now (palette .entry)) ⌝ }
+{
+    if !answer::size_ok(width, height) {
+        return answer::Answer::Refused(answer::Refusal::BadSize, 0);
+    }
+    let n = width * height;
+    if picture.len() < n {
+        return answer::Answer::Refused(answer::Refusal::ShortSlice, 0);
+    }
+    if palette.len() < answer::PALETTE_BYTES {
+        return answer::Answer::Refused(answer::Refusal::ShortSlice, 0);
+    }
+    match check_frame(bytes, width, height) {
+        answer::Answer::Refused(e, place) => {
+            return answer::Answer::Refused(e, place);
+        }
+        answer::Answer::Done => {}
+    }
+    play_frame(
+        &mut picture[..n],
+        &mut palette[..answer::PALETTE_BYTES],
+        bytes,
+        width,
+        height,
+    );
+    answer::Answer::Done
+}

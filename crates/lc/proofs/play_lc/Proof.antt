@@ -1,0 +1,126 @@
+-- The invariant: the writes of the rows that are left, on the picture as it is now, give what all the body's writes give on the picture as it was; those rows lie above the height. The measure is their count.
+use mathlib.Core.Path.{_≡_, ap, _∙_, sym, refl, subst}
+use mathlib.Core.List.{List}
+use Prim.Native.Nat.{ℕ, _≤_, _-_, _+_}
+use native.Mathlib.Omega.{arith}
+use borrow.Author.Needs.{needs}
+use lib.ListN.{length}
+use Rattle.words.specs.Writes.{written}
+use Rattle.words.proofs.Laws.{row-in}
+use Rattle.answer.proofs.Laws.{after, VerdictIn}
+use Rattle.lc.specs.Lc.{rows, lc}
+use Rattle.lc.proofs.Laws.{lc-cut, lc-past, lc-open, rows-none, rows-as, rows-played, row-ends}
+use Rattle.lc.proofs.play_lc.Statement.{statement}
+use Rattle.lc.proofs.play_lc.Tie as tie
+
+abbrev Inv-loop : tie.InvT-loop
+Inv-loop picture₀ body width height row₀ left₀ at₀ picture row left at =
+    (at ≤ length body) × (row + left ≤ height) × (length picture ≡ length picture₀)
+    × (after picture₀ (lc width height body) ≡ after picture (rows width body left row at))
+
+abbrev μ-loop : tie.MeasureT-loop
+μ-loop picture₀ body width height row₀ left₀ at₀ picture row left at = left
+
+returns : tie.Need-returns Inv-loop μ-loop
+unfolding written
+returns c = let a = c .before .before .before .args in sym (ap (after (a .picture .now)) (lc-cut (a .width) (a .height) (a .body .now) (c .if1 .taken)))
+
+u16-at-requires : tie.Need-u16-at-requires Inv-loop μ-loop
+u16-at-requires c κs = search needs
+
+u16-at-requires-2 : tie.Need-u16-at-requires-2 Inv-loop μ-loop
+u16-at-requires-2 c κs = search needs
+
+add-if2 : tie.Need-add-if2 Inv-loop μ-loop
+add-if2 c = search needs
+
+returns-2 : tie.Need-returns-2 Inv-loop μ-loop
+unfolding written
+returns-2 c =
+    let a = c .before .before .before .before .before .before .args in
+    sym (ap (after (a .picture .now)) (lc-past (a .width) (a .height) (a .body .now) _ _ (c .before .before .before .if1 .left) (c .before .before .u16-at .ensures .value) (c .before .u16-at2 .ensures .value) (c .if2 .taken)))
+
+loop-holds : tie.Need-loop-holds Inv-loop μ-loop
+loop-holds c =
+    let a = c .before .before .before .before .before .before .args in
+    let k = lc-open (a .width) (a .height) (a .body .now) _ _ (c .before .before .before .if1 .left) (c .before .before .u16-at .ensures .value) (c .before .u16-at2 .ensures .value) (c .if2 .left) in
+    (omega arith, c .if2 .left, refl, ap (after (a .picture .now)) k)
+
+play-row-requires : tie.Need-play-row-requires Inv-loop μ-loop
+play-row-requires c κs =
+    let a = c .before .before .before .before .before .before .before .before .before .args in
+    let l = c .before .before .loop in
+    let r = row-in (a .width) (a .height) (l .row) (omega (arith, l .inv .1, c .before .loop-test .taken)) in
+    (l .inv .0, c .before .before .before .before .before .before .before .before .before .pre .0, omega (arith, r, c .before .before .before .before .before .before .before .before .before .pre .1, l .inv .2))
+
+enum-told : tie.Need-enum-told Inv-loop μ-loop
+enum-told c = search needs
+
+same-length : tie.Need-same-length Inv-loop μ-loop
+same-length c = c .before .before .before .before .play-row .kept .0 ∙ c .before .before .before .before .before .before .before .loop .inv .2
+
+returns-3 : tie.Need-returns-3 Inv-loop μ-loop
+returns-3 c =
+    let a = c .before .before .before .before .before .before .before .before .before .before .before .before .before .before .args in
+    let l = c .before .before .before .before .before .before .before .loop in
+    let k = rows-as (a .width) (a .body .now) (l .left) (l .row) (l .at) (c .before .before .before .before .before .before .loop-test .taken) _ (sym (c .before .before .before .before .play-row .ensures .0) ∙ c .enum-told .given .1) in
+    c .before .before .before .before .play-row .ensures .1 ∙ sym (l .inv .3 ∙ ap (after (l .picture)) k)
+
+enum-known-end : tie.Need-enum-known-end Inv-loop μ-loop
+enum-known-end c = search needs
+
+add-row : tie.Need-add-row Inv-loop μ-loop
+add-row c = omega (arith, c .before .before .before .before .before .before .before .before .loop .inv .1, c .before .before .before .before .before .before .before .loop-test .taken)
+
+sub-left : tie.Need-sub-left Inv-loop μ-loop
+sub-left c = omega (arith, c .before .before .before .before .before .before .before .loop-test .taken)
+
+loop-less : tie.Need-loop-less Inv-loop μ-loop
+loop-less c = omega (arith, c .before .before .before .before .before .before .before .loop-test .taken)
+
+loop-again : tie.Need-loop-again Inv-loop μ-loop
+loop-again c =
+    let a = c .before .before .before .before .before .before .before .before .before .before .before .before .before .before .before .args in
+    let l = c .before .before .before .before .before .before .before .before .loop in
+    let q = sym (c .before .before .before .before .before .play-row .ensures .0) ∙ c .before .end .given .1 in
+    let some = c .before .before .before .before .before .before .before .loop-test .taken in (
+      subst (VerdictIn (a .body .now)) q (row-ends (a .width) (a .body .now) (l .row) (l .at)),
+      omega (arith, l .inv .1, some),
+      c .before .before .before .before .before .play-row .kept .0 ∙ l .inv .2,
+      l .inv .3 ∙ rows-played (a .width) (a .body .now) (l .picture) (l .left) (l .row) (l .at) some _ q
+          ∙ ap (λ (d : List ℕ). after d (rows (a .width) (a .body .now) (l .left - 1) (l .row + 1) (c .before .end .given .0 .0))) (sym (c .before .before .before .before .before .play-row .ensures .1)),
+    )
+
+same-length-2 : tie.Need-same-length-2 Inv-loop μ-loop
+same-length-2 c = search needs
+
+returns-4 : tie.Need-returns-4 Inv-loop μ-loop
+unfolding written
+returns-4 c =
+    let a = c .before .before .before .before .before .before .before .before .args in
+    let l = c .before .loop in
+    sym (l .inv .3 ∙ ap (after (l .picture)) (rows-none (a .width) (a .body .now) (l .left) (l .row) (l .at) (c .loop-test .left)))
+
+pub play-lc-spec : {M : Type 1} → statement M
+play-lc-spec =
+    tie.close
+    (tie.spec
+    Inv-loop
+    μ-loop
+    returns
+    u16-at-requires
+    u16-at-requires-2
+    add-if2
+    returns-2
+    loop-holds
+    play-row-requires
+    enum-told
+    same-length
+    returns-3
+    enum-known-end
+    add-row
+    sub-left
+    loop-less
+    loop-again
+    same-length-2
+    returns-4)

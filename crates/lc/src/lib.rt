@@ -1,0 +1,110 @@
+// Reading kind 12, LC: document 01, "Frames, chunks and rows".
+// A check writes nothing; a play does the writes that come before the first fault.
+ghost use mathlib.Core.Path.{_≡_};
+ghost use Prim.Native.Nat.{_+_, _*_, _≤_};
+ghost use lib.ListN.{length};
+ghost use Rattle.words.specs.Writes.{written};
+ghost use Rattle.answer.specs.Answer.{maxWidth};
+ghost use Rattle.lc.specs.Lc.{startAt, rowAt, lc};
+
+// A row's start: a fault, or the starting column, the packet count and the offset of the first packet.
+pub enum Start {
+    Fault(answer::Refusal),
+    Row { x: usize, count: usize, from: usize },
+}
+
+// The row start at offset at.
+fn start_at(body: &[u8], at: usize) -> Start
+    requires { ⌜ at ≤ length (now body) ⌝ }
+    ensures { λ r. ⌜ r ≡ startAt (now (body .entry)) at ⌝ }
+{
+    if body.len() - at < 2 {
+        return Start::Fault(answer::Refusal::BodyEnds);
+    }
+    Start::Row {
+        x: words::wide(body[at]),
+        count: words::wide(body[at + 1]),
+        from: at + 2,
+    }
+}
+
+// Checks the row at offset at.
+fn check_row(body: &[u8], at: usize, width: usize) -> answer::Verdict
+    requires { ⌜ (at ≤ length (now body)) × (width ≤ maxWidth) ⌝ }
+    ensures { λ r. ⌜ r ≡ rowAt width (now (body .entry)) 0 at .verdict ⌝ }
+{
+    match start_at(body, at) {
+        Start::Fault(e) => answer::Verdict::Fault(e),
+        Start::Row { x, count, from } => packets::check_packets(body, count, from, x, width, 1),
+    }
+}
+
+// Plays the row at offset at, on row row of the picture.
+fn play_row(picture: &mut [u8], body: &[u8], at: usize, width: usize, row: usize) -> answer::Verdict
+    requires { ⌜ (at ≤ length (now body)) × (width ≤ maxWidth) × (row * width + width ≤ length (now picture)) ⌝ }
+    ensures verdict { λ r. ⌜ r ≡ rowAt width (now (body .entry)) row at .verdict ⌝ }
+    ensures writes { λ _. ⌜ now (picture .exit) ≡ written (rowAt width (now (body .entry)) row at .writes) (now (picture .entry)) ⌝ }
+{
+    match start_at(body, at) {
+        Start::Fault(e) => answer::Verdict::Fault(e),
+        Start::Row { x, count, from } => {
+            packets::play_packets(picture, body, count, from, x, width, row, 1)
+        }
+    }
+}
+
+// Checks a body, for a picture of this width and height.
+pub fn check_lc(body: &[u8], width: usize, height: usize) -> answer::Verdict
+    requires { ⌜ width ≤ maxWidth ⌝ }
+    ensures { λ r. ⌜ r ≡ lc width height (now (body .entry)) .verdict ⌝ }
+{
+    if body.len() < 4 {
+        return answer::Verdict::Fault(answer::Refusal::BodyEnds);
+    }
+    let first = words::u16_at(body, 0);
+    let mut left = words::u16_at(body, 2);
+    if height < first + left {
+        return answer::Verdict::Fault(answer::Refusal::PastHeight);
+    }
+    let mut at = 4;
+    while left > 0 {
+        match check_row(body, at, width) {
+            answer::Verdict::Fault(e) => {
+                return answer::Verdict::Fault(e);
+            }
+            answer::Verdict::Ends(end) => {
+                at = end;
+                left -= 1;
+            }
+        }
+    }
+    answer::Verdict::Ends(at)
+}
+
+// Does the writes of a body on a picture of this width and height.
+pub fn play_lc(picture: &mut [u8], body: &[u8], width: usize, height: usize)
+    requires { ⌜ (width ≤ maxWidth) × (width * height ≤ length (now picture)) ⌝ }
+    ensures { λ _. ⌜ now (picture .exit) ≡ written (lc width height (now (body .entry)) .writes) (now (picture .entry)) ⌝ }
+{
+    if body.len() < 4 {
+        return;
+    }
+    let mut row = words::u16_at(body, 0);
+    let mut left = words::u16_at(body, 2);
+    if height < row + left {
+        return;
+    }
+    let mut at = 4;
+    while left > 0 {
+        match play_row(picture, body, at, width, row) {
+            answer::Verdict::Fault(_) => {
+                return;
+            }
+            answer::Verdict::Ends(end) => {
+                at = end;
+                row += 1;
+                left -= 1;
+            }
+        }
+    }
+}

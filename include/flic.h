@@ -1,0 +1,34 @@
+/* Crookribbon: the FLC codec for C. Link libcapi.a, which `rt staticlib capi` makes in target/staticlib/.
+ *
+ * No call trusts its caller: any bytes, sizes and lengths may be handed in. A pointer may be anything but null
+ * where its length is 0; otherwise it points to that many bytes, and no two lent slices of one call overlap.
+ * Refusal numbers and what to do about each: docs/REFUSALS.md. */
+#ifndef FLIC_H
+#define FLIC_H
+
+#include <stddef.h>
+#include <stdint.h>
+
+#ifdef __cplusplus
+extern "C" {
+#endif
+
+/* number 0: done. Otherwise a refusal's number and its place, an offset into the bytes handed in;
+ * a refusal leaves all lent memory as it was. */
+typedef struct {
+    uint32_t number;
+    uint64_t place;
+} flic_answer;
+
+/* Reads one frame chunk against the picture (width * height bytes, row by row) and the palette
+ * (768 bytes, red, green, blue) that show, and changes both in place. Longer slices keep their excess. */
+flic_answer flic_read_frame(const uint8_t *bytes, size_t bytes_len,
+                            uint64_t width, uint64_t height,
+                            uint8_t *picture, size_t picture_len,
+                            uint8_t *palette, size_t palette_len);
+
+#ifdef __cplusplus
+}
+#endif
+
+#endif

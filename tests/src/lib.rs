@@ -1,0 +1,14 @@
+//! The independent test side of the codec: a second reading of the papers, and what the differential tests share.
+
+pub mod behind;
+pub mod boundary;
+pub mod cases;
+pub mod command;
+pub mod compare;
+pub mod damage;
+pub mod frames;
+pub mod model;
+pub mod sizes;
+pub mod states;
+pub mod tally;
+pub mod write_cases;

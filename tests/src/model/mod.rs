@@ -1,0 +1,81 @@
+//! The model: document 01 read a second time, in plain Rust, sharing nothing with the codec.
+
+pub mod decode;
+pub mod encode;
+pub mod lent;
+pub mod rng;
+
+/// The largest width and height of a picture.
+pub const MAX_WIDTH: u64 = 320;
+pub const MAX_HEIGHT: u64 = 200;
+
+/// A palette is 256 entries of red, green, blue.
+pub const PALETTE_BYTES: usize = 768;
+
+pub const FRAME_TYPE: u16 = 0xF1FA;
+pub const FRAME_HEADER: usize = 16;
+pub const CHUNK_HEADER: usize = 6;
+
+/// The kinds of sub-chunk, by 001's names.
+pub mod kind {
+    pub const COLOR256: u16 = 4;
+    pub const SS2: u16 = 7;
+    pub const COLOR: u16 = 11;
+    pub const LC: u16 = 12;
+    pub const BLACK: u16 = 13;
+    pub const BRUN: u16 = 15;
+    pub const COPY: u16 = 16;
+    pub const PSTAMP: u16 = 18;
+}
+
+/// The refusal numbers of a single frame, by document 01's table.
+pub mod number {
+    pub const SHORT_SLICE: u32 = 1;
+    pub const BAD_SIZE: u32 = 2;
+    pub const SHORT_OUTPUT: u32 = 3;
+    pub const CUT_SHORT: u32 = 4;
+    pub const WRONG_TYPE: u32 = 5;
+    pub const SIZE_TOO_SMALL: u32 = 6;
+    pub const BODY_ENDS: u32 = 7;
+    pub const EMPTY_BRUN_PACKET: u32 = 8;
+    pub const PAST_WIDTH: u32 = 9;
+    pub const PAST_HEIGHT: u32 = 10;
+    pub const BAD_SS2_WORD: u32 = 11;
+    pub const PAST_LAST_COLOUR: u32 = 12;
+    pub const LEVEL_OVER_63: u32 = 13;
+}
+
+/// A refusal: its number, and the offset of the chunk at fault.
+#[derive(Clone, Copy, Debug, PartialEq, Eq)]
+pub struct Refusal {
+    pub number: u32,
+    pub place: u64,
+}
+
+impl Refusal {
+    pub fn new(number: u32, place: usize) -> Refusal {
+        Refusal { number, place: place as u64 }
+    }
+}
+
+/// Document 01's check 2: the size as numbers that can be counted with.
+pub fn accepted_size(width: u64, height: u64) -> Result<(usize, usize), Refusal> {
+    let width_is_right = (1..=MAX_WIDTH).contains(&width);
+    let height_is_right = (1..=MAX_HEIGHT).contains(&height);
+    if width_is_right && height_is_right {
+        Ok((width as usize, height as usize))
+    } else {
+        Err(Refusal::new(number::BAD_SIZE, 0))
+    }
+}
+
+/// Document 01's check 1, over every picture and palette slice of a call.
+pub fn long_enough(pixels: usize, pictures: &[&[u8]], palettes: &[&[u8]]) -> Result<(), Refusal> {
+    let pictures_hold = pictures.iter().all(|slice| slice.len() >= pixels);
+    let palettes_hold = palettes.iter().all(|slice| slice.len() >= PALETTE_BYTES);
+    if pictures_hold && palettes_hold {
+        Ok(())
+    } else {
+        Err(Refusal::new(number::SHORT_SLICE, 0))
+    }
+}
