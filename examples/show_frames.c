@@ -1,5 +1,5 @@
-/* Plays frame files one after the other, from blank, and shows each picture in the terminal.
- * Usage: show_frames WIDTH HEIGHT FILE.. */
+/* Plays frame files one after the other, from blank, shows each picture in the terminal, and says how long
+ * the frame would be in house form. Usage: show_frames WIDTH HEIGHT FILE.. */
 #include <stdio.h>
 #include <stdlib.h>
 #include <string.h>
@@ -61,17 +61,20 @@ int main(int count, char **words)
         return 2;
     }
     uint64_t width = strtoull(words[1], NULL, 10), height = strtoull(words[2], NULL, 10);
-    static uint8_t picture[320 * 200], palette[768];
+    static uint8_t picture[320 * 200], palette[768], work_picture[320 * 200], work_palette[768], out[1 << 17];
     for (int i = 3; i < count; i++) {
         size_t n;
         unsigned char *bytes = whole_file(words[i], &n);
+        flic_written house = flic_rewrite_frame(bytes, n, width, height, picture, sizeof picture, palette, sizeof palette,
+                                                work_picture, sizeof work_picture, work_palette, sizeof work_palette,
+                                                out, sizeof out);
         flic_answer a = flic_read_frame(bytes, n, width, height, picture, sizeof picture, palette, sizeof palette);
         free(bytes);
         if (a.number != 0) {
             printf("%s: refused %u at offset %llu: %s; the picture stays as it was\n", words[i], a.number,
                    (unsigned long long)a.place, advice(a.number));
         } else {
-            printf("%s:\n", words[i]);
+            printf("%s: %zu bytes, in house form %llu\n", words[i], n, (unsigned long long)house.length);
             show(picture, width, height);
         }
     }

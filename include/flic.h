@@ -27,6 +27,32 @@ flic_answer flic_read_frame(const uint8_t *bytes, size_t bytes_len,
                             uint8_t *picture, size_t picture_len,
                             uint8_t *palette, size_t palette_len);
 
+/* number 0: done, with how many bytes were written; the rest of the output stays as it was.
+ * A refusal has length 0 and leaves all lent memory as it was, but for a rewrite's working pair (see below). */
+typedef struct {
+    uint32_t number;
+    uint64_t place;
+    uint64_t length;
+} flic_written;
+
+/* Writes, in house form, the frame chunk that leads from the previous picture and palette to the next. */
+flic_written flic_write_frame(uint64_t width, uint64_t height,
+                              const uint8_t *previous_picture, size_t previous_picture_len,
+                              const uint8_t *previous_palette, size_t previous_palette_len,
+                              const uint8_t *next_picture, size_t next_picture_len,
+                              const uint8_t *next_palette, size_t next_palette_len,
+                              uint8_t *out, size_t out_len);
+
+/* Reads a frame chunk against the previous picture and palette and writes it anew in house form.
+ * The working pair holds the next picture and palette when done or refused 3, else stays as it was. */
+flic_written flic_rewrite_frame(const uint8_t *bytes, size_t bytes_len,
+                                uint64_t width, uint64_t height,
+                                const uint8_t *previous_picture, size_t previous_picture_len,
+                                const uint8_t *previous_palette, size_t previous_palette_len,
+                                uint8_t *work_picture, size_t work_picture_len,
+                                uint8_t *work_palette, size_t work_palette_len,
+                                uint8_t *out, size_t out_len);
+
 #ifdef __cplusplus
 }
 #endif

@@ -10,6 +10,7 @@ use lib.Dec.{leb}
 use lib.ListN.{length, getD}
 use Rattle.words.specs.Writes.{Write, written}
 use Rattle.words.proofs.Laws.{Inside, inside-append}
+use Rattle.words.proofs.Bytewise.{Bytewise, bytewise-append}
 use Rattle.answer.specs.Answer.{number, told, toldWritten, maxWidth, maxHeight, sizeOk}
 use Rattle.answer.specs.Walk.{Walk, onward}
 use Rattle.answer.specs.declared.Refusal.{Refusal}
@@ -117,3 +118,9 @@ pub onward-inside : (n : ℕ) (ws : List Write) (v : Verdict) (k : ℕ → Walk)
     → ((at : ℕ) → Inside n (k at .writes)) → Inside n (onward ws v k .writes)
 onward-inside n ws (Ends at) k i f = inside-append n ws (k at .writes) i (f at)
 onward-inside n ws (Fault e) k i f = i
+
+-- of one walk after another: where both write bytes, so does the whole
+pub onward-bytewise : (ws : List Write) (v : Verdict) (k : ℕ → Walk) → Bytewise ws
+    → ((at : ℕ) → Bytewise (k at .writes)) → Bytewise (onward ws v k .writes)
+onward-bytewise ws (Ends at) k i f = bytewise-append ws (k at .writes) i (f at)
+onward-bytewise ws (Fault e) k i f = i

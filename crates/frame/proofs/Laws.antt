@@ -19,11 +19,12 @@ use Rattle.answer.specs.declared.Verdict.the-variants as verdict
 use Rattle.answer.specs.declared.Answer.{Answer}
 use Rattle.answer.specs.declared.Answer.the-variants.{Done, Refused}
 use Rattle.answer.specs.Answer.{sizeOk}
+use Rattle.answer.proofs.Laws.{both-true}
 use Rattle.answer.specs.Format.{FRAME-TYPE}
 use Rattle.frame.specs.declared.FrameHeader.{FrameHeader}
 use Rattle.frame.specs.declared.FrameHeader.the-variants as whole
 use Rattle.frame.specs.Frame.{frameHeader, afterFrameHeader, skipped, subChunk, FrameWalk, stop, headerAt, settle, followed, afterHeader, subChunks, frame}
-use Rattle.frame.specs.Reading.{outcome, settled, readFrame}
+use Rattle.frame.specs.Reading.{outcome, enough, settled, readFrame}
 use Rattle.frame.specs.declared.Header.{Header}
 use Rattle.frame.specs.declared.Header.the-variants.{Fault, Chunk}
 
@@ -179,14 +180,15 @@ module _ (b : List ℕ) (w h : ℕ) (p q : List ℕ) where
   unfolding readFrame
   read-size e = rw e
 
-  pub read-picture : sizeOk w h ≡ true → length p < w * h → readFrame b w h p q ≡ outcome (Refused ShortSlice 0) p q
+  pub read-short : sizeOk w h ≡ true → enough (w * h) p q ≡ false → readFrame b w h p q ≡ outcome (Refused ShortSlice 0) p q
   unfolding readFrame
-  read-picture e k = rw (e, lt-leb (w * h) (length p) k)
+  read-short e k = rw (e, k)
 
-  pub read-palette : sizeOk w h ≡ true → w * h ≤ length p → length q < 768 → readFrame b w h p q ≡ outcome (Refused ShortSlice 0) p q
+  pub read-settled : sizeOk w h ≡ true → enough (w * h) p q ≡ true → (a : Answer) → frame w h b .answer ≡ a → readFrame b w h p q ≡ settled (w * h) (frame w h b) a p q
   unfolding readFrame
-  read-palette e k l = rw (e, le-leb (w * h) (length p) k, lt-leb 768 (length q) l)
+  read-settled e k a r = rw (e, k) (ap (λ (x : Answer). settled (w * h) (frame w h b) x p q) r)
 
-  pub read-settled : sizeOk w h ≡ true → w * h ≤ length p → 768 ≤ length q → (a : Answer) → frame w h b .answer ≡ a → readFrame b w h p q ≡ settled (w * h) (frame w h b) a p q
-  unfolding readFrame
-  read-settled e k l a r = rw (e, le-leb (w * h) (length p) k, le-leb 768 (length q) l) (ap (λ (x : Answer). settled (w * h) (frame w h b) x p q) r)
+pub enough-in : (n : ℕ) (p q : List ℕ) → enough n p q ≡ true → (n ≤ length p) × (768 ≤ length q)
+enough-in n p q e =
+    let t = both-true (leb n (length p)) (leb 768 (length q)) e in
+    (leb-true n (length p) (t .0), leb-true 768 (length q) (t .1))

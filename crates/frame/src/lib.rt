@@ -1,7 +1,9 @@
 // Reading one frame: document 01, "Frames, chunks and rows".
 // A first pass checks all of it and writes nothing, a second does its writes.
 ghost use mathlib.Core.Path.{_≡_};
+ghost use mathlib.Core.Bool.{_&&_};
 ghost use Prim.Native.Nat.{_≤_};
+ghost use lib.Dec.{leb};
 ghost use lib.ListN.{length};
 ghost use Rattle.words.specs.Writes.{written};
 ghost use Rattle.answer.specs.Answer.{maxWidth, maxHeight};
@@ -186,6 +188,16 @@ pub fn play_frame(picture: &mut [u8], palette: &mut [u8], b: &[u8], width: usize
     }
 }
 
+// Whether slices of these lengths hold a picture of n pixels and a palette.
+pub fn holds(pixels: usize, colours: usize, n: usize) -> bool
+    ensures { λ r. ⌜ r ≡ (leb n pixels && leb 768 colours) ⌝ }
+{
+    if pixels < n {
+        return false;
+    }
+    colours >= answer::PALETTE_BYTES
+}
+
 // Reads one frame against the picture and palette that show.
 pub fn read_frame(
     bytes: &[u8],
@@ -200,10 +212,7 @@ pub fn read_frame(
         return answer::Answer::Refused(answer::Refusal::BadSize, 0);
     }
     let n = width * height;
-    if picture.len() < n {
-        return answer::Answer::Refused(answer::Refusal::ShortSlice, 0);
-    }
-    if palette.len() < answer::PALETTE_BYTES {
+    if !holds(picture.len(), palette.len(), n) {
         return answer::Answer::Refused(answer::Refusal::ShortSlice, 0);
     }
     match check_frame(bytes, width, height) {

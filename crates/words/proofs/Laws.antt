@@ -6,11 +6,11 @@ use Prim.Native.Nat.{ℕ, suc, zero, _≤_, _<_, _+_, _-_, _*_}
 use native.Mathlib.Nat.{zero-add, add-sub-cancel-left, mul-le-mul-right, mul-comm, add-zero}
 use native.Mathlib.Omega.{arith}
 use lib.Dec.{eqb}
-use lib.ListN.{length, drop, take, set, getD, length-append, length-drop, length-set, take-append-drop, drop-of-length-le}
-use lib.Seq.{length-take-le, drop-drop, drop-cons, set-split, take-at, drop-at}
+use lib.ListN.{length, drop, take, set, getD, length-append, length-drop, length-set, take-append-drop, drop-of-length-le, replicate}
+use lib.Seq.{length-take-le, drop-drop, drop-cons, set-split, take-at, drop-at, take-append-le, take-take}
 use native.Mathlib.Numerals.{add-one}
 use borrow.Author.Tests.{lt-ltb, le-ltb, eq-eqb, ne-eqb, eqb-true}
-use Rattle.words.specs.Words.{pick, magnitude, same, Bytes}
+use Rattle.words.specs.Words.{pick, magnitude, le16, le32, chunk, same, Bytes}
 use Rattle.words.specs.Writes.{Write, put, written}
 
 -- a signed byte
@@ -92,6 +92,23 @@ put-append d at v z n l h =
   where
     sum : (at : ℕ) → at + length v + length z ≡ at + length (v ++ z)
     sum at = omega (arith, length-append v z)
+
+-- the same where e and f are what stands after each store
+pub put-then : (d e f v z : List ℕ) (at n : ℕ) → length v ≡ n → at + n ≤ length d → e ≡ put d at v → f ≡ put e (at + n) z → f ≡ put d at (v ++ z)
+put-then d e f v z at n l h x y = y ∙ ap (λ (o : List ℕ). put o (at + n) z) x ∙ sym (put-append d at v z n l h)
+
+-- bytes stored in front of what was stored
+pub put-before : (d v z : List ℕ) (at n : ℕ) → length v ≡ n → at + n ≤ length d → put (put d (at + n) z) at v ≡ put d at (v ++ z)
+put-before d v z at n l h =
+    let e : length (take (at + n) d) ≡ at + n = length-take-le (at + n) d h in
+    let rest = z ++ drop (at + n + length z) d in
+    let front : take at (take (at + n) d ++ rest) ≡ take at d =
+    take-append-le at (take (at + n) d) rest (omega arith) ∙ take-take at (at + n) d (omega arith) in
+    let tail : drop (at + length v) (take (at + n) d ++ rest) ≡ rest = drop-at (take (at + n) d) rest (at + length v) (omega arith) in
+    let sum : at + n + length z ≡ at + length (v ++ z) = omega (arith, length-append v z) in
+    ap₂ (λ (x y : List ℕ). x ++ (v ++ y)) front tail
+    ∙ ap (λ (k : ℕ). take at d ++ (v ++ (z ++ drop k d))) sum
+    ∙ ap (λ (x : List ℕ). take at d ++ x) (sym (append-assoc v z (drop (at + length (v ++ z)) d)))
 
 -- two bytes
 pub put-two : (d : List ℕ) (at x y : ℕ) → at + 2 ≤ length d → set (set d at x) (at + 1) y ≡ put d at (x ∷ y ∷ [])
@@ -181,3 +198,35 @@ pub bytes-drop : (n : ℕ) (xs : List ℕ) → Bytes xs → Bytes (drop n xs)
 bytes-drop zero xs h = h
 bytes-drop (suc n) [] h = tt
 bytes-drop (suc n) (x ∷ xs) h = bytes-drop n xs (h .1)
+
+-- a list of zeros
+pub getD-zeros : (n i : ℕ) → _≡_ {A = ℕ} (getD (replicate n 0) i 0) 0
+getD-zeros zero i = refl
+getD-zeros (suc n) zero = refl
+getD-zeros (suc n) (suc i) = getD-zeros n i
+
+-- a chunk: its header, and then its body
+
+pub length-chunk : (kind : ℕ) (body : List ℕ) → length (chunk kind body) ≡ 6 + length body
+unfolding chunk
+length-chunk kind body = omega arith
+
+pub chunk-header : (kind : ℕ) (body : List ℕ) → chunk kind body ≡ le32 (6 + length body) (le16 kind []) ++ body
+unfolding chunk
+chunk-header kind body = refl
+
+-- a chunk stored, its header first or its body first
+module _ (out out₁ out′ : List ℕ) (at n kind : ℕ) (body : List ℕ) (size : n ≡ 6 + length body) (room : at + 6 + length body ≤ length out) where
+  pub put-header-first : out₁ ≡ put out at (le32 n (le16 kind [])) → out′ ≡ put out₁ (at + 6) body → out′ ≡ put out at (chunk kind body)
+  put-header-first h b =
+      b
+      ∙ ap (λ (d : List ℕ). put d (at + 6) body) (h ∙ ap (λ (k : ℕ). put out at (le32 k (le16 kind []))) size)
+      ∙ sym (put-append out at (le32 (6 + length body) (le16 kind [])) body 6 refl (omega arith))
+      ∙ ap (put out at) (sym (chunk-header kind body))
+
+  pub put-header-last : out₁ ≡ put out (at + 6) body → out′ ≡ put out₁ at (le32 n (le16 kind [])) → out′ ≡ put out at (chunk kind body)
+  put-header-last b h =
+      h
+      ∙ ap₂ (λ (d : List ℕ) (k : ℕ). put d at (le32 k (le16 kind []))) b size
+      ∙ put-before out (le32 (6 + length body) (le16 kind [])) body at 6 refl (omega arith)
+      ∙ ap (put out at) (sym (chunk-header kind body))

@@ -1,10 +1,12 @@
 -- Where bytes lie in a list whose front is known: what reading back goes by.
-use mathlib.Core.Path.{_≡_, sym, ap, ap₂, _∙_}
-use mathlib.Core.List.{List, _++_}
-use Prim.Native.Nat.{ℕ, _+_, _≤_}
+use mathlib.Core.Path.{_≡_, refl, sym, ap, ap₂, _∙_}
+use mathlib.Core.List.{List, [], _∷_, _++_}
+use Prim.Native.Nat.{ℕ, _+_, _*_, _/_, _%_, _≤_, _<_}
+use native.Mathlib.Nat.{add-zero}
 use native.Mathlib.Omega.{arith}
 use lib.ListN.{length, take, drop, getD, length-drop}
 use lib.Seq.{take-at, drop-at, drop-drop, getD-drop}
+use Rattle.words.specs.Words.{u16At, u32At, le16, le32}
 use Rattle.words.specs.Writes.{put}
 
 -- where b from offset at on is v and then z
@@ -19,6 +21,28 @@ there-byte b z at n x e f = sym (getD-drop at b n 0) ∙ ap (λ (q : List ℕ). 
 
 pub there-long : (b z : List ℕ) (at n : ℕ) → drop at b ≡ z → 1 ≤ n → n ≤ length z → at + n ≤ length b
 there-long b z at n e s h = omega (arith, length-drop at b, ap length e)
+
+-- the word whose two bytes stand there
+pub there-word : (b more : List ℕ) (at lo hi x : ℕ) → drop at b ≡ lo ∷ hi ∷ more → lo + 256 * hi ≡ x → u16At b at ≡ x
+unfolding u16At
+there-word b more at lo hi x e f =
+    ap₂ (λ (p q : ℕ). p + 256 * q) (ap (λ (i : ℕ). getD b i 0) (sym (add-zero at)) ∙ there-byte b (lo ∷ hi ∷ more) at 0 lo e refl) (there-byte b (lo ∷ hi ∷ more) at 1 hi e refl) ∙ f
+
+pub there-le16 : (b more : List ℕ) (at x : ℕ) → drop at b ≡ le16 x more → u16At b at ≡ x
+there-le16 b more at x e = there-word b more at (x % 256) (x / 256) x e (omega arith)
+
+word : (x : ℕ) → x < 4294967296 → x % 256 + 256 * (x / 256 % 256) + 65536 * (x / 256 / 256 % 256 + 256 * (x / 256 / 256 / 256 % 256)) ≡ x
+word x h = omega arith
+
+pub there-le32 : (b more : List ℕ) (at x : ℕ) → x < 4294967296 → drop at b ≡ le32 x more → u32At b at ≡ x
+unfolding u32At
+there-le32 b more at x h e =
+    let low : List ℕ = x % 256 ∷ x / 256 % 256 ∷ [] in
+    let high : List ℕ = x / 256 / 256 % 256 ∷ x / 256 / 256 / 256 % 256 ∷ more in
+    ap₂ (λ (p q : ℕ). p + 65536 * q)
+    (there-word b high at (x % 256) (x / 256 % 256) _ e refl)
+    (there-word b more (at + 2) (x / 256 / 256 % 256) (x / 256 / 256 / 256 % 256) _ (there-drop b low high at 2 e refl) refl)
+    ∙ word x h
 
 -- bytes stored in the place of as many
 pub put-at : (a o v z : List ℕ) (at : ℕ) → length a ≡ at → length o ≡ length v → put (a ++ (o ++ z)) at v ≡ a ++ (v ++ z)

@@ -100,6 +100,15 @@ pub fn put_u32(out: &mut [u8], at: usize, x: usize)
     put_two(out, at + 2, x / 256 / 256 % 256, x / 256 / 256 / 256 % 256);
 }
 
+// Stores a chunk's header: its size and its kind.
+pub fn put_header(out: &mut [u8], at: usize, size: usize, kind: usize)
+    requires { ⌜ (at + 6 ≤ length (now out)) × (kind < 65536) ⌝ }
+    ensures { λ _. ⌜ now (out .exit) ≡ put (now (out .entry)) at (le32 size (le16 kind [])) ⌝ }
+{
+    put_u32(out, at, size);
+    put_u16(out, at + 4, kind);
+}
+
 // Stores the bytes v.
 pub fn put_bytes(out: &mut [u8], at: usize, v: &[u8])
     requires { ⌜ at + length (now v) ≤ length (now out) ⌝ }

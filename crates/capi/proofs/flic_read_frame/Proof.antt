@@ -1,7 +1,8 @@
 -- `flic_read_frame` meets its contract: it hands on what `read_frame` answers.
-use Rattle.capi.specs.Capi.{numberOf, placeOf}
+use Rattle.capi.specs.Capi.{Told}
 use Rattle.frame.specs.Reading.{Outcome}
-use mathlib.Core.Path.{ap, _∙_}
+use Rattle.answer.specs.Answer.{Said}
+use mathlib.Core.Path.{ap, subst}
 use borrow.Author.Needs.{needs}
 use Rattle.capi.proofs.flic_read_frame.Statement.{statement}
 use Rattle.capi.proofs.flic_read_frame.Tie as tie
@@ -9,8 +10,8 @@ use Rattle.capi.proofs.flic_read_frame.Tie as tie
 read-frame-requires : tie.Need-read-frame-requires
 read-frame-requires c κs = search needs
 
-told-to-c-requires : tie.Need-told-to-c-requires
-told-to-c-requires c κs = search needs
+answer-for-c-requires : tie.Need-answer-for-c-requires
+answer-for-c-requires c κs = search needs
 
 same-length : tie.Need-same-length
 same-length c = search needs
@@ -22,12 +23,12 @@ returns : tie.Need-returns
 returns c =
     let e = c .before .before .before .before .before .read-frame .ensures in
     record {
-      number-is = c .told-to-c .ensures .0 ∙ ap (λ (o : Outcome). numberOf (o .said)) e;
-      place-is = c .told-to-c .ensures .1 ∙ ap (λ (o : Outcome). placeOf (o .said)) e;
+      told = subst (λ (s : Said). Told (c .answer-for-c .result .number) (c .answer-for-c .result .place) s) (ap (λ (o : Outcome). o .said) e) (c .answer-for-c .ensures);
       picture-is = ap (λ (o : Outcome). o .picture) e;
       palette-is = ap (λ (o : Outcome). o .palette) e;
     }
 
 pub flic-read-frame-spec : {M : Type 1} → statement M
 flic-read-frame-spec =
-    tie.close (tie.spec read-frame-requires told-to-c-requires same-length same-length-2 returns)
+    tie.close
+    (tie.spec read-frame-requires answer-for-c-requires same-length same-length-2 returns)

@@ -1,0 +1,3 @@
+pub mod CellLaws
+pub mod RunLaws
+pub mod StretchLaws

@@ -1,0 +1,4 @@
+pub mod PairLaws
+pub mod PacketLaws
+pub mod SpanLaws
+pub mod LineLaws

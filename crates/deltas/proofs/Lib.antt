@@ -1,0 +1,4 @@
+pub mod RowLaws
+pub mod Turns
+pub mod LineBack
+pub mod ReadsBack

@@ -1,0 +1,50 @@
+-- `all_zero` meets its contract. The invariant: the picture is all 0 exactly if it is from pixel i on.
+use mathlib.Core.Path.{_≡_, _∙_, sym}
+use Prim.Native.Nat.{_-_}
+use borrow.Author.Needs.{needs}
+use lib.ListN.{length}
+use Rattle.fulls.specs.Full.{allZero}
+use Rattle.fulls.proofs.Laws.{zeroFrom, zero-first, zero-goes, zero-stops, zero-ends}
+use Rattle.fulls.proofs.all_zero.Statement.{statement}
+use Rattle.fulls.proofs.all_zero.Tie as tie
+
+abbrev Inv-loop : tie.InvT-loop
+Inv-loop picture i₀ i = allZero picture ≡ zeroFrom picture i
+
+abbrev μ-loop : tie.MeasureT-loop
+μ-loop picture i₀ i = length picture - i
+
+loop-holds : tie.Need-loop-holds Inv-loop μ-loop
+loop-holds c = zero-first (c .args .picture .now)
+
+shared-slice-read-if1 : tie.Need-shared-slice-read-if1 Inv-loop μ-loop
+shared-slice-read-if1 c = search needs
+
+returns : tie.Need-returns Inv-loop μ-loop
+returns c = sym (c .before .before .before .loop .inv ∙ zero-stops (c .before .before .before .before .args .picture .now) (c .before .before .before .loop .i) (c .before .before .loop-test .taken) (c .if1 .taken))
+
+add-i : tie.Need-add-i Inv-loop μ-loop
+add-i c = search needs
+
+loop-less : tie.Need-loop-less Inv-loop μ-loop
+loop-less c = search needs
+
+loop-again : tie.Need-loop-again Inv-loop μ-loop
+loop-again c = c .before .before .before .loop .inv ∙ zero-goes (c .before .before .before .before .args .picture .now) (c .before .before .before .loop .i) (c .before .before .loop-test .taken) (c .if1 .left)
+
+returns-2 : tie.Need-returns-2 Inv-loop μ-loop
+returns-2 c = sym (c .before .loop .inv ∙ zero-ends (c .before .before .args .picture .now) (c .before .loop .i) (c .loop-test .left))
+
+pub all-zero-spec : {M : Type 1} → statement M
+all-zero-spec =
+    tie.close
+    (tie.spec
+    Inv-loop
+    μ-loop
+    loop-holds
+    shared-slice-read-if1
+    returns
+    add-i
+    loop-less
+    loop-again
+    returns-2)

@@ -1,0 +1,52 @@
+-- `write_colours` meets its contract: a plan of no chunk stands for equal palettes; any other has the count and the size of the chunk written.
+use mathlib.Core.List.{[]}
+use mathlib.Core.Path.{sym}
+use native.Mathlib.Omega.{arith}
+use borrow.Author.Needs.{needs}
+use Rattle.words.specs.Words.{chunk}
+use Rattle.words.proofs.Laws.{put-nil, put-header-first}
+use Rattle.answer.specs.Format.{FLI-COLOR256}
+use Rattle.colours.specs.Colours.{colourBody}
+use Rattle.house.proofs.Laws.{put-as, colour-none, coloured}
+use Rattle.house.proofs.write_colours.Statement.{statement}
+use Rattle.house.proofs.write_colours.Tie as tie
+
+returns : tie.Need-returns
+returns c =
+    let a = c .before .before .before .before .before .args in
+    put-as (a .out .now) (a .out .now) [] _ (a .at) (colour-none (c .before .before .before .before .before .pre .1) (c .if1 .taken)) (sym (put-nil (a .out .now) (a .at)))
+
+put-header-requires : tie.Need-put-header-requires
+put-header-requires c κs = (omega (arith, coloured (c .before .before .before .before .before .before .pre .1) (c .before .if1 .left) .size), omega arith)
+
+add-write-colour : tie.Need-add-write-colour
+add-write-colour c = search needs
+
+write-colour-requires : tie.Need-write-colour-requires
+write-colour-requires c κs =
+    let k = coloured (c .before .before .before .before .before .before .before .before .before .before .pre .1) (c .before .before .before .before .before .if1 .left) in
+    (c .before .before .before .before .before .before .before .before .before .before .pre .0 .previous, c .before .before .before .before .before .before .before .before .before .before .pre .0 .next, c .before .before .before .before .before .before .before .before .before .before .pre .1 .few, k .count, omega (arith, k .size))
+
+same-length : tie.Need-same-length
+same-length c = search needs
+
+returns-2 : tie.Need-returns-2
+returns-2 c =
+    let a = c .before .before .before .before .before .before .before .before .before .before .before .before .before .args in
+    let k = coloured (c .before .before .before .before .before .before .before .before .before .before .before .before .before .pre .1) (c .before .before .before .before .before .before .before .before .if1 .left) in
+    let header = c .before .before .before .before .before .before .put-header in
+    let body = c .before .before .write-colour in
+    put-as (a .out .now) (body .last .0) (chunk FLI-COLOR256 (colourBody (a .previous .now) (a .next .now))) _ (a .at) (k .bytes)
+    (put-header-first (a .out .now) (header .last .0) (body .last .0) (a .at) (a .plan .size) FLI-COLOR256 (colourBody (a .previous .now) (a .next .now))
+    (k .size) (omega (arith, k .size)) (header .ensures) (body .ensures))
+
+pub write-colours-spec : {M : Type 1} → statement M
+write-colours-spec =
+    tie.close
+    (tie.spec
+    returns
+    put-header-requires
+    add-write-colour
+    write-colour-requires
+    same-length
+    returns-2)

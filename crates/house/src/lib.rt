@@ -1,0 +1,202 @@
+// Writing one frame in house form: document 01, "House form of a frame".
+// A first pass measures it and writes nothing, a second writes it.
+ghost use mathlib.Core.Path.{_≡_};
+ghost use mathlib.Core.List.{flatten};
+ghost use Prim.Native.Nat.{_+_, _<_, _≤_};
+ghost use lib.ListN.{length};
+ghost use Rattle.words.specs.Writes.{put};
+ghost use Rattle.house.specs.House.{colourChunk, pictureChunk, changed, houseFrame};
+ghost use Rattle.house.specs.Plans.{Palettes, Pictures, ColourPlan, PicturePlan, headerBytes};
+ghost use Rattle.house.specs.Writing.{output, fitted, state, writeFrame};
+use answer::FLI_COLOR256;
+use answer::FLI_SS2;
+use answer::FRAME_TYPE;
+use answer::PALETTE_BYTES;
+use answer::Refusal;
+use answer::Written;
+use frame::holds;
+use words::put_header;
+use words::same_bytes;
+
+// A sub-chunk before it is written: how many there are (0 or 1), its kind, its packets or lines, its bytes.
+struct Plan {
+    chunks: usize,
+    kind: usize,
+    count: usize,
+    size: usize,
+}
+
+// Plans the colour chunk.
+fn measure_colours(previous: &[u8], next: &[u8]) -> Plan
+    requires { ⌜ Palettes (now previous) (now next) ⌝ }
+    ensures { λ r. ⌜ ColourPlan (now (previous .entry)) (now (next .entry)) r ⌝ }
+{
+    if same_bytes(previous, next) {
+        return Plan {
+            chunks: 0,
+            kind: 0,
+            count: 0,
+            size: 0,
+        };
+    }
+    let body = colours::measure_colour(previous, next);
+    Plan {
+        chunks: 1,
+        kind: FLI_COLOR256,
+        count: body.count,
+        size: 6 + body.size,
+    }
+}
+
+// Plans the picture chunk: the delta if it is strictly shorter than the full chunk.
+fn measure_picture(previous: &[u8], next: &[u8], width: usize, height: usize) -> Plan
+    requires { ⌜ Pictures width height (now previous) (now next) ⌝ }
+    ensures { λ r. ⌜ PicturePlan width height (now (previous .entry)) (now (next .entry)) r ⌝ }
+{
+    if same_bytes(previous, next) {
+        return Plan {
+            chunks: 0,
+            kind: 0,
+            count: 0,
+            size: 0,
+        };
+    }
+    let delta = deltas::measure_delta(previous, next, width, height);
+    let full = fulls::measure_full(next, width, height);
+    if 6 + delta.size < full.size {
+        return Plan {
+            chunks: 1,
+            kind: FLI_SS2,
+            count: delta.count,
+            size: 6 + delta.size,
+        };
+    }
+    Plan {
+        chunks: 1,
+        kind: full.kind,
+        count: 0,
+        size: full.size,
+    }
+}
+
+// Stores the header of a frame of size bytes and count sub-chunks.
+fn put_frame_header(out: &mut [u8], size: usize, count: usize)
+    requires { ⌜ (16 ≤ length (now out)) × (count < 65536) ⌝ }
+    ensures { λ _. ⌜ now (out .exit) ≡ put (now (out .entry)) 0 (headerBytes size count) ⌝ }
+{
+    put_header(out, 0, size, FRAME_TYPE);
+    words::put_u16(out, 6, count);
+    words::fill(&mut out[8..16], 0);
+}
+
+// Writes the colour chunk as planned.
+fn write_colours(out: &mut [u8], at: usize, previous: &[u8], next: &[u8], plan: Plan)
+    requires { ⌜ Palettes (now previous) (now next) × ColourPlan (now previous) (now next) plan × (at + plan .size ≤ length (now out)) ⌝ }
+    ensures { λ _.
+        ⌜ now (out .exit)
+        ≡ put (now (out .entry)) at (flatten (changed (now (previous .entry)) (now (next .entry)) (colourChunk (now (previous .entry)) (now (next .entry))))) ⌝ }
+{
+    if plan.chunks == 0 {
+        return;
+    }
+    put_header(out, at, plan.size, FLI_COLOR256);
+    colours::write_colour(out, at + 6, previous, next, plan.count);
+}
+
+// Writes the picture chunk as planned.
+fn write_picture(
+    out: &mut [u8],
+    at: usize,
+    previous: &[u8],
+    next: &[u8],
+    width: usize,
+    height: usize,
+    plan: Plan,
+)
+    requires { ⌜ Pictures width height (now previous) (now next) × PicturePlan width height (now previous) (now next) plan
+        × (at + plan .size ≤ length (now out)) ⌝ }
+    ensures { λ _.
+        ⌜ now (out .exit)
+        ≡ put (now (out .entry)) at (flatten (changed (now (previous .entry)) (now (next .entry)) (pictureChunk width height (now (previous .entry)) (now (next .entry))))) ⌝ }
+{
+    if plan.chunks == 0 {
+        return;
+    }
+    if plan.kind == FLI_SS2 {
+        put_header(out, at, plan.size, FLI_SS2);
+        deltas::write_delta(out, at + 6, previous, next, width, height, plan.count);
+        return;
+    }
+    fulls::write_full(out, at, next, width, height, plan.kind);
+}
+
+// Writes the house frame from a previous state to a next one, if it fits.
+pub fn write_house(
+    out: &mut [u8],
+    previous_picture: &[u8],
+    previous_palette: &[u8],
+    next_picture: &[u8],
+    next_palette: &[u8],
+    width: usize,
+    height: usize,
+) -> Written
+    requires { ⌜ Pictures width height (now «previous_picture») (now «next_picture») × Palettes (now «previous_palette») (now «next_palette») ⌝ }
+    ensures { λ r.
+        ⌜ output r (now (out .exit))
+        ≡ fitted (houseFrame width height (state (now («previous_picture» .entry)) (now («previous_palette» .entry))) (state (now («next_picture» .entry)) (now («next_palette» .entry)))) (now (out .entry)) ⌝ }
+{
+    let colours = measure_colours(previous_palette, next_palette);
+    let picture = measure_picture(previous_picture, next_picture, width, height);
+    let size = 16 + colours.size + picture.size;
+    if out.len() < size {
+        return Written::Refused(Refusal::NoRoom, 0);
+    }
+    put_frame_header(out, size, colours.chunks + picture.chunks);
+    let at = 16 + colours.size;
+    write_colours(out, 16, previous_palette, next_palette, colours);
+    write_picture(
+        out,
+        at,
+        previous_picture,
+        next_picture,
+        width,
+        height,
+        picture,
+    );
+    Written::Done(size)
+}
+
+// Writes one frame: the house frame from the previous picture and palette to the next.
+pub fn write_frame(
+    width: usize,
+    height: usize,
+    previous_picture: &[u8],
+    previous_palette: &[u8],
+    next_picture: &[u8],
+    next_palette: &[u8],
+    out: &mut [u8],
+) -> Written
+    ensures { λ r.
+        ⌜ output r (now (out .exit))
+        ≡ writeFrame width height (now («previous_picture» .entry)) (now («previous_palette» .entry)) (now («next_picture» .entry)) (now («next_palette» .entry)) (now (out .entry)) ⌝ }
+{
+    if !answer::size_ok(width, height) {
+        return Written::Refused(Refusal::BadSize, 0);
+    }
+    let n = width * height;
+    if !holds(previous_picture.len(), previous_palette.len(), n) {
+        return Written::Refused(Refusal::ShortSlice, 0);
+    }
+    if !holds(next_picture.len(), next_palette.len(), n) {
+        return Written::Refused(Refusal::ShortSlice, 0);
+    }
+    write_house(
+        out,
+        &previous_picture[0..n],
+        &previous_palette[0..PALETTE_BYTES],
+        &next_picture[0..n],
+        &next_palette[0..PALETTE_BYTES],
+        width,
+        height,
+    )
+}

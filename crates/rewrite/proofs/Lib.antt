@@ -1,0 +1,3 @@
+pub mod Laws
+pub mod Subs
+pub mod Demand3

@@ -1,0 +1,107 @@
+-- Demand 3 of the mission, in terms of `rewriteFrame`, which the contract of `rewrite_frame` equates with the code.
+-- Its words are those of document 01, "Words of demand 3". The theorem is `demand3` (proofs/Demand3.antt).
+use Prim.Native.Nat.{ℕ, zero, suc, _*_, _≤_}
+use mathlib.Core.Path.{_≡_}
+use mathlib.Core.List.{List, [], _∷_}
+use lib.Dec.{eqb}
+use lib.ListN.{length, take}
+use Rattle.words.specs.Words.{pick, u32At, Bytes}
+use Rattle.answer.specs.Answer.{Said, done, refused, State}
+use Rattle.answer.specs.Format.{FLI-COLOR256, FLI-BLACK, FLI-BRUN, FLI-COPY}
+use Rattle.frame.specs.Frame.{headerAt, frameHeader}
+use Rattle.frame.specs.Reading.{front, readFrame}
+use Rattle.frame.specs.declared.FrameHeader.{FrameHeader}
+use Rattle.frame.specs.declared.FrameHeader.the-variants as whole
+use Rattle.frame.specs.declared.Header.{Header}
+use Rattle.frame.specs.declared.Header.the-variants.{Fault, Chunk}
+use Rattle.rewrite.specs.Rewriting.{Rewritten, rewriteFrame}
+
+-- "Room enough: no lent slice is so short that 1 or 3 is given"
+pub record RoomEnough (o : Rewritten) : Type 0 where
+  pub no-short-slice : (place : ℕ) → o .said ≡ refused 1 place → ⊥
+  pub no-short-output : (place : ℕ) → o .said ≡ refused 3 place → ⊥
+
+-- the bytes that a rewrite wrote
+abbrev pub writtenOf : Said → List ℕ → List ℕ
+writtenOf (done []) out = []
+writtenOf (done (n ∷ ns)) out = take n out
+writtenOf (refused n place) out = []
+
+abbrev pub bytesWritten : Rewritten → List ℕ
+bytesWritten o = writtenOf (o .said) (o .bytes)
+
+-- a sub-chunk, by its header: its kind and its size field
+pub record Sub : Type 0 where
+  pub kind : ℕ
+  pub size : ℕ
+
+abbrev pub afterSub : List ℕ → ℕ → Header → (ℕ → List Sub) → List Sub
+afterSub b at (Fault e) rest = []
+afterSub b at (Chunk kind end) rest = record { kind = kind; size = u32At b at } ∷ rest end
+
+-- n sub-chunks from offset at on
+unfoldable pub subsAt : List ℕ → ℕ → ℕ → List Sub
+unfolding headerAt
+subsAt b zero at = []
+subsAt b (suc n) at = afterSub b at (headerAt b at) (λ end. subsAt b n end)
+
+-- the sub-chunks of a frame
+abbrev pub afterWhole : List ℕ → FrameHeader → List Sub
+afterWhole b (whole.Fault e) = []
+afterWhole b (whole.Frame count size) = subsAt (take size b) count 16
+
+unfoldable pub subsOf : List ℕ → List Sub
+unfolding frameHeader subsAt
+subsOf b = afterWhole b (frameHeader b)
+
+-- "A picture chunk is a sub-chunk not of kind 4"
+unfoldable pub pictured : List Sub → List Sub
+pictured [] = []
+pictured (k ∷ ks) = pick (eqb (k .kind) FLI-COLOR256) (pictured ks) (k ∷ pictured ks)
+
+-- BLACK, BRUN or COPY
+pub data FullKind : ℕ → Type 0 where
+  black : FullKind FLI-BLACK
+  brun : FullKind FLI-BRUN
+  copy : FullKind FLI-COPY
+
+-- "Fix a size, a previous picture and a previous palette"
+module _ (w h : ℕ) (p q : List ℕ) where
+  -- a frame "that the reader accepts there"
+  abbrev pub Accepted : List ℕ → Type 0
+  Accepted b = readFrame b w h p q .said ≡ done []
+
+  -- the next state, "over width times height pixels and 768 palette bytes"
+  unfoldable pub next : List ℕ → State
+  unfolding readFrame
+  next b = front (w * h) (readFrame b w h p q .picture) (readFrame b w h p q .palette)
+
+  -- the rewrite of a frame, with what the working pair and the output held before
+  abbrev pub rewrite : List ℕ → List ℕ → List ℕ → List ℕ → Rewritten
+  rewrite b wp wq out = rewriteFrame b w h p q wp wq out
+
+  pub record Demand3 : Type 0 where
+    -- "For every two frames that the reader accepts there, and whatever the output and the working pictures and palettes held before,
+    -- rewriting each in house form is done"; "The bytes written are the whole frame's, as many as its size field says"
+    pub rewriting-is-done : (b wp wq out : List ℕ) → Bytes b → Accepted b → RoomEnough (rewrite b wp wq out)
+        → (n : ℕ) × (rewrite b wp wq out .said ≡ done (n ∷ [])) × (length (bytesWritten (rewrite b wp wq out)) ≡ n) × (u32At (bytesWritten (rewrite b wp wq out)) 0 ≡ n)
+    -- "The bytes written are equal exactly when both frames give the same next picture and palette"
+    pub same-bytes-same-state : (b wp wq out b′ wp′ wq′ out′ : List ℕ)
+        → Bytes b → Accepted b → RoomEnough (rewrite b wp wq out) → Bytes b′ → Accepted b′ → RoomEnough (rewrite b′ wp′ wq′ out′)
+        → (bytesWritten (rewrite b wp wq out) ≡ bytesWritten (rewrite b′ wp′ wq′ out′) → next b ≡ next b′)
+        × (next b ≡ next b′ → bytesWritten (rewrite b wp wq out) ≡ bytesWritten (rewrite b′ wp′ wq′ out′))
+    -- "Rewriting what was written, against the same previous picture and palette, is done too and gives those same bytes"
+    pub written-is-accepted : (b wp wq out : List ℕ) → Bytes b → Accepted b → RoomEnough (rewrite b wp wq out) → Accepted (bytesWritten (rewrite b wp wq out))
+    pub rewriting-again : (b wp wq out wp′ wq′ out′ : List ℕ) → Bytes b → Accepted b → RoomEnough (rewrite b wp wq out)
+        → RoomEnough (rewrite (bytesWritten (rewrite b wp wq out)) wp′ wq′ out′)
+        → ((n : ℕ) × (rewrite (bytesWritten (rewrite b wp wq out)) wp′ wq′ out′ .said ≡ done (n ∷ [])))
+        × (bytesWritten (rewrite (bytesWritten (rewrite b wp wq out)) wp′ wq′ out′) ≡ bytesWritten (rewrite b wp wq out))
+    -- "If the picture changes, the rewritten frame has one picture chunk"
+    pub one-picture-chunk : (b wp wq out : List ℕ) → Bytes b → Accepted b → RoomEnough (rewrite b wp wq out) → (next b .picture ≡ take (w * h) p → ⊥)
+        → (k : Sub) × (pictured (subsOf (bytesWritten (rewrite b wp wq out))) ≡ k ∷ [])
+    -- "and every single BLACK, BRUN or COPY chunk that gives that picture has at least as many bytes": "A single chunk gives a picture if a frame
+    -- holding only that sub-chunk, read against the previous state, is accepted and leaves that picture"
+    pub no-full-chunk-shorter : (b wp wq out : List ℕ) → Bytes b → Accepted b → RoomEnough (rewrite b wp wq out) → (next b .picture ≡ take (w * h) p → ⊥)
+        → (k : Sub) → pictured (subsOf (bytesWritten (rewrite b wp wq out))) ≡ k ∷ []
+        → (c : List ℕ) (kind size : ℕ) → FullKind kind → Accepted c → subsOf c ≡ record { kind = kind; size = size } ∷ [] → next c .picture ≡ next b .picture
+        → k .size ≤ size

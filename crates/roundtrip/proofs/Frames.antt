@@ -1,0 +1,128 @@
+-- A frame of sub-chunks plays as they do, one after the other: `framed-plays`.
+-- The idea: the header of each sub-chunk is found where the one before ends, its body is the part that was written, and the walk goes on from there.
+use mathlib.Core.Path.{_≡_, refl, sym, ap, _∙_, subst}
+use mathlib.Core.List.{List, [], _∷_, _++_, flatten}
+use Prim.Native.Nat.{ℕ, suc, _+_, _-_, _/_, _%_, _<_}
+use native.Mathlib.Omega.{arith}
+use lib.ListN.{length, take, drop, length-append}
+use lib.Seq.{take-all}
+use Rattle.words.specs.Words.{u32At, part, le16, le32, chunk}
+use Rattle.words.specs.Writes.{written}
+use Rattle.words.proofs.Laws.{written-append, length-chunk}
+use Rattle.words.proofs.There.{there-drop, there-take, there-long, there-le16, there-le32}
+use Rattle.answer.specs.Format.{FRAME-TYPE}
+use Rattle.answer.specs.declared.Verdict.{Verdict}
+use Rattle.answer.specs.declared.Answer.the-variants.{Done}
+use Rattle.frame.specs.Frame.{ChunkWalk, FrameWalk, stop, headerAt, settle, followed, subChunk, subChunks, frameHeader, frame}
+use Rattle.frame.specs.declared.FrameHeader.the-variants.{Frame}
+use Rattle.frame.specs.declared.Header.the-variants.{Chunk}
+use Rattle.frame.proofs.Laws.{header-whole, chunks-none, chunks-more, frame-whole, frame-as}
+use Rattle.house.specs.House.{framed}
+use Rattle.roundtrip.specs.Plays.{Acts, Plays}
+
+-- sub-chunks that turn p and q into p′ and q′, one after the other
+pub data Subs (w h : ℕ) : List (List ℕ) → List ℕ → List ℕ → List ℕ → List ℕ → Type 0 where
+  none : {p q : List ℕ} → Subs w h [] p q p q
+  sub : {subs : List (List ℕ)} {p q p′ q′ : List ℕ} (kind : ℕ) (body p₁ q₁ : List ℕ) → 6 + length body < 4294967296
+      → Acts (subChunk w h kind body) p q p₁ q₁ → Subs w h subs p₁ q₁ p′ q′ → Subs w h (chunk kind body ∷ subs) p q p′ q′
+
+plays-as : {f g : FrameWalk} {p q p′ q′ : List ℕ} → f ≡ g → Plays g p q p′ q′ → Plays f p q p′ q′
+plays-as {f} {g} {p} {q} {p′} {q′} e x = subst (λ (k : FrameWalk). Plays k p q p′ q′) (sym e) x
+
+plays-none : (p q : List ℕ) → Plays (stop Done) p q p q
+unfolding written
+plays-none p q = record { done = refl; picture = refl; palette = refl }
+
+plays-more : (at : ℕ) (c : ChunkWalk) (f : FrameWalk) {p q p₁ q₁ p′ q′ : List ℕ} → Acts c p q p₁ q₁ → Plays f p₁ q₁ p′ q′ → Plays (followed at c f) p q p′ q′
+plays-more at c f {p} {q} {p₁} {q₁} {p′} {q′} x y =
+    record {
+      done = ap (λ (v : Verdict). settle at v (f .answer)) (x .ended) ∙ y .done;
+      picture = written-append (c .pixels) (f .pixels) p ∙ ap (written (f .pixels)) (x .picture) ∙ y .picture;
+      palette = written-append (c .colours) (f .colours) q ∙ ap (written (f .colours)) (x .palette) ∙ y .palette;
+    }
+
+-- a chunk that stands at offset at of b, and what follows it
+module _ (b : List ℕ) (at kind : ℕ) (body more : List ℕ) (there : drop at b ≡ chunk kind body ++ more) (small : 6 + length body < 4294967296) where
+  bytes : drop at b ≡ le32 (6 + length body) (le16 kind (body ++ more))
+  unfolding chunk
+  bytes = there
+
+  typed : drop (at + 4) b ≡ le16 kind (body ++ more)
+  typed =
+      let n = 6 + length body in
+      there-drop b (n % 256 ∷ n / 256 % 256 ∷ n / 256 / 256 % 256 ∷ n / 256 / 256 / 256 % 256 ∷ []) (le16 kind (body ++ more)) at 4 bytes refl
+
+  bodied : drop (at + 6) b ≡ body ++ more
+  bodied =
+      let e : at + 6 ≡ at + 4 + 2 = omega arith in
+      ap (λ (i : ℕ). drop i b) e ∙ there-drop b (kind % 256 ∷ kind / 256 ∷ []) (body ++ more) (at + 4) 2 typed refl
+
+  pub chunk-size : u32At b at ≡ 6 + length body
+  chunk-size = there-le32 b (le16 kind (body ++ more)) at (6 + length body) small bytes
+
+  pub chunk-there : headerAt b at ≡ Chunk kind (at + (6 + length body))
+  chunk-there =
+      let n = 6 + length body in
+      let z = le32 n (le16 kind (body ++ more)) in
+      let size = chunk-size in
+      let l = length-append body more in
+      let long = there-long b z at n bytes (omega arith) (omega arith) in
+      sym (header-whole b at kind n (sym (there-le16 b (body ++ more) (at + 4) kind typed)) (sym size) (omega arith) (omega arith))
+
+  pub body-there : part b (at + 6) (at + (6 + length body)) ≡ body
+  body-there =
+      let e : at + (6 + length body) - (at + 6) ≡ length body = omega arith in
+      ap (λ (i : ℕ). take i (drop (at + 6) b)) e ∙ there-take b body more (at + 6) (length body) bodied refl
+
+  pub more-there : drop (at + (6 + length body)) b ≡ more
+  more-there = there-drop b (chunk kind body) more at (6 + length body) there (length-chunk kind body)
+
+module _ (w h : ℕ) (b : List ℕ) where
+  chunks-play : {subs : List (List ℕ)} {p q p′ q′ : List ℕ} → Subs w h subs p q p′ q′ → (at : ℕ) → drop at b ≡ flatten subs
+      → Plays (subChunks w h b (length subs) at) p q p′ q′
+  unfolding flatten
+  chunks-play (none {p} {q}) at e = plays-as (chunks-none w h b 0 at (omega arith)) (plays-none p q)
+  chunks-play (sub {subs} {p} {q} {p′} {q′} kind body p₁ q₁ small acts more) at e =
+      let end = at + (6 + length body) in
+      let rest = flatten subs in
+      let n : suc (length subs) - 1 ≡ length subs = omega arith in
+      plays-as
+      (chunks-more w h b (suc (length subs)) at (omega arith) kind end (chunk-there b at kind body rest e small)
+      ∙ ap (λ (m : ℕ). followed at (subChunk w h kind (part b (at + 6) end)) (subChunks w h b m end)) n
+      ∙ ap (λ (x : List ℕ). followed at (subChunk w h kind x) (subChunks w h b (length subs) end)) (body-there b at kind body rest e small))
+      (plays-more at (subChunk w h kind body) (subChunks w h b (length subs) end) acts
+      (chunks-play more end (more-there b at kind body rest e small)))
+
+-- its length is what its size field says
+pub length-framed : (subs : List (List ℕ)) → length (framed subs) ≡ 16 + length (flatten subs)
+unfolding framed
+length-framed subs = omega arith
+
+module _ (subs : List (List ℕ)) (small : 16 + length (flatten subs) < 4294967296) where
+  pub framed-field : u32At (framed subs) 0 ≡ length (framed subs)
+  unfolding framed
+  framed-field =
+      let b = framed subs in
+      there-le32 b (le16 FRAME-TYPE (le16 (length subs) (0 ∷ 0 ∷ 0 ∷ 0 ∷ 0 ∷ 0 ∷ 0 ∷ 0 ∷ flatten subs))) 0 (16 + length (flatten subs)) small refl ∙ sym (length-framed subs)
+
+  pub framed-header : frameHeader (framed subs) ≡ Frame (length subs) (length (framed subs))
+  unfolding framed
+  framed-header =
+      let after : List ℕ = 0 ∷ 0 ∷ 0 ∷ 0 ∷ 0 ∷ 0 ∷ 0 ∷ 0 ∷ flatten subs in
+      let b = framed subs in
+      let n = length-framed subs in
+      sym (frame-whole b (length subs) (length b) (sym (there-le16 b after 6 (length subs) refl)) (sym framed-field) (omega arith)
+      (there-le16 b (le16 (length subs) after) 4 FRAME-TYPE refl) (omega (arith, framed-field)) (omega (arith, framed-field)))
+
+  pub framed-subs : drop 16 (framed subs) ≡ flatten subs
+  unfolding framed
+  framed-subs = refl
+
+-- a frame of these sub-chunks
+pub framed-plays : (w h : ℕ) (subs : List (List ℕ)) (p q p′ q′ : List ℕ) → 16 + length (flatten subs) < 4294967296 → Subs w h subs p q p′ q′
+    → Plays (frame w h (framed subs)) p q p′ q′
+framed-plays w h subs p q p′ q′ small s =
+    let b = framed subs in
+    plays-as
+    (frame-as w h b (Frame (length subs) (length b)) (framed-header subs small) ∙ ap (λ (x : List ℕ). subChunks w h x (length subs) 16) (take-all (length b) b (omega arith)))
+    (chunks-play w h b s 16 (framed-subs subs small))

@@ -1,0 +1,1 @@
+// A house frame reads back: theorems over the definitions, no code.

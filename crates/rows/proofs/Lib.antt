@@ -1,0 +1,7 @@
+pub mod RowRule
+pub mod Packets
+pub mod Lowest
+pub mod Windows
+pub mod Steps
+pub mod Searching
+pub mod Writing
