@@ -1,5 +1,8 @@
 //! Compares the library's flic_read_frame with the model, on seeded frames that are valid, damaged, or mere chance.
 
+#[path = "../library.rs"]
+mod library;
+
 use flic_tests::behind;
 use flic_tests::boundary::{FlicAnswer, ReadCall, Reader};
 use flic_tests::cases::{Family, ReadCase, FAMILIES, SINGLE};
@@ -15,37 +18,6 @@ const BASE_SEED: u64 = 20_260;
 const LEAST_FRAMES: u64 = 200_000;
 const NUMBERS: [u32; 12] = [1, 2, 4, 5, 6, 7, 8, 9, 10, 11, 12, 13];
 const SELF_CHECK_BATCHES: u64 = 4_000;
-
-extern "C" {
-    fn flic_read_frame(
-        bytes: *const u8,
-        bytes_length: usize,
-        width: u64,
-        height: u64,
-        picture: *mut u8,
-        picture_length: usize,
-        palette: *mut u8,
-        palette_length: usize,
-    ) -> FlicAnswer;
-}
-
-/// The library's reader.
-fn library(call: &mut ReadCall) -> FlicAnswer {
-    let (bytes, picture, palette) = (&mut call.bytes, &mut call.shown.picture, &mut call.shown.palette);
-    // SAFETY: each pointer goes with its own slice's length, and the slices don't overlap.
-    unsafe {
-        flic_read_frame(
-            bytes.pointer(),
-            bytes.length(),
-            call.width,
-            call.height,
-            picture.pointer(),
-            picture.length(),
-            palette.pointer(),
-            palette.length(),
-        )
-    }
-}
 
 fn main() {
     let names: Vec<&str> = FAMILIES.iter().map(|family| family.name).collect();
@@ -82,7 +54,7 @@ fn one_batch(name: &str, seed: u64) {
 }
 
 fn run_batch(family: &Family<ReadCase>, seed: u64, tally: &mut Tally) {
-    family.batch(seed, &mut |case| match compare::reading(library, Mistake::None, &case, seed) {
+    family.batch(seed, &mut |case| match compare::reading(library::reads, Mistake::None, &case, seed) {
         Ok(answer) => {
             tally.count(answer.number);
             if answer.number == 0 {
@@ -223,7 +195,7 @@ fn examples() -> Vec<Example> {
 fn named_examples(base: u64) {
     for example in examples() {
         let mut call = ReadCall::lending(&example.case, base);
-        let answer = library(&mut call);
+        let answer = library::reads(&mut call);
         let picture = call.shown.picture.content();
         if answer != example.answer
             || picture != example.shown.picture

@@ -1,7 +1,10 @@
 //! Compares the library's flic_write_frame and flic_rewrite_frame with the model's house form, byte for byte.
 
+#[path = "../library.rs"]
+mod library;
+
 use flic_tests::behind;
-use flic_tests::boundary::{FlicAnswer, FlicWritten, ReadCall, RewriteCall, Rewriter, WriteCall, Writer};
+use flic_tests::boundary::{FlicWritten, Rewriter, WriteCall, Writer};
 use flic_tests::cases::{Family, ReadCase};
 use flic_tests::command::{fail, require_seen, task_or_exit, Task};
 use flic_tests::compare::{self, hex, Difference};
@@ -16,112 +19,6 @@ use flic_tests::write_cases::{
 const BASE_SEED: u64 = 20_261;
 const SELF_CHECK_BATCHES: u64 = 3_000;
 const HOUSE_KINDS: [u16; 5] = [kind::COLOR256, kind::SS2, kind::BLACK, kind::BRUN, kind::COPY];
-
-extern "C" {
-    fn flic_read_frame(
-        bytes: *const u8,
-        bytes_length: usize,
-        width: u64,
-        height: u64,
-        picture: *mut u8,
-        picture_length: usize,
-        palette: *mut u8,
-        palette_length: usize,
-    ) -> FlicAnswer;
-
-    fn flic_write_frame(
-        width: u64,
-        height: u64,
-        previous_picture: *const u8,
-        previous_picture_length: usize,
-        previous_palette: *const u8,
-        previous_palette_length: usize,
-        next_picture: *const u8,
-        next_picture_length: usize,
-        next_palette: *const u8,
-        next_palette_length: usize,
-        out: *mut u8,
-        out_length: usize,
-    ) -> FlicWritten;
-
-    fn flic_rewrite_frame(
-        bytes: *const u8,
-        bytes_length: usize,
-        width: u64,
-        height: u64,
-        previous_picture: *const u8,
-        previous_picture_length: usize,
-        previous_palette: *const u8,
-        previous_palette_length: usize,
-        work_picture: *mut u8,
-        work_picture_length: usize,
-        work_palette: *mut u8,
-        work_palette_length: usize,
-        out: *mut u8,
-        out_length: usize,
-    ) -> FlicWritten;
-}
-
-fn library_reads(call: &mut ReadCall) -> FlicAnswer {
-    let (bytes, picture, palette) = (&mut call.bytes, &mut call.shown.picture, &mut call.shown.palette);
-    // SAFETY: each pointer goes with its own slice's length, and the slices don't overlap.
-    unsafe {
-        flic_read_frame(
-            bytes.pointer(),
-            bytes.length(),
-            call.width,
-            call.height,
-            picture.pointer(),
-            picture.length(),
-            palette.pointer(),
-            palette.length(),
-        )
-    }
-}
-
-fn library_writes(call: &mut WriteCall) -> FlicWritten {
-    let (previous, next, out) = (&mut call.previous, &mut call.next, &mut call.out);
-    // SAFETY: each pointer goes with its own slice's length, and the slices don't overlap.
-    unsafe {
-        flic_write_frame(
-            call.width,
-            call.height,
-            previous.picture.pointer(),
-            previous.picture.length(),
-            previous.palette.pointer(),
-            previous.palette.length(),
-            next.picture.pointer(),
-            next.picture.length(),
-            next.palette.pointer(),
-            next.palette.length(),
-            out.pointer(),
-            out.length(),
-        )
-    }
-}
-
-fn library_rewrites(call: &mut RewriteCall) -> FlicWritten {
-    let (bytes, previous, work, out) = (&mut call.bytes, &mut call.previous, &mut call.work, &mut call.out);
-    // SAFETY: each pointer goes with its own slice's length, and the slices don't overlap.
-    unsafe {
-        flic_rewrite_frame(
-            bytes.pointer(),
-            bytes.length(),
-            call.width,
-            call.height,
-            previous.picture.pointer(),
-            previous.picture.length(),
-            previous.palette.pointer(),
-            previous.palette.length(),
-            work.picture.pointer(),
-            work.picture.length(),
-            work.palette.pointer(),
-            work.palette.length(),
-            out.pointer(),
-            out.length(),
-        )
-    }
-}
 
 /// What the two halves of a run have met.
 struct Tallies {
@@ -207,11 +104,11 @@ fn write_batch(family: &Family<WriteCase>, seed: u64, tallies: &mut Tallies) {
 
 /// Writes, and reads what was written.
 fn check_write(case: &WriteCase, seed: u64) -> Result<(FlicWritten, Vec<u8>), Difference> {
-    let (answer, out) = compare::writing(library_writes, Mistake::None, case, seed)?;
+    let (answer, out) = compare::writing(library::writes, Mistake::None, case, seed)?;
     if answer.number == 0 {
         let bytes = out[..answer.length as usize].to_vec();
         let written = ReadCase { bytes, width: case.width, height: case.height, shown: case.previous.clone() };
-        compare::read_back(library_reads, &written, &case.next, seed)?;
+        compare::read_back(library::reads, &written, &case.next, seed)?;
     }
     Ok((answer, out))
 }
@@ -234,13 +131,13 @@ fn rewrite_batch(family: &Family<RewriteCase>, seed: u64, tallies: &mut Tallies)
 
 /// Rewrites, reads what was written, and rewrites it once more.
 fn check_rewrite(case: &RewriteCase, seed: u64) -> Result<u32, Difference> {
-    let once = compare::rewriting(library_rewrites, Mistake::None, case, seed)?;
+    let once = compare::rewriting(library::rewrites, Mistake::None, case, seed)?;
     if once.answer.number == 0 {
         let bytes = once.out[..once.answer.length as usize].to_vec();
         let again = RewriteCase { bytes: bytes.clone(), ..case.clone() };
         let written = ReadCase { bytes, width: case.width, height: case.height, shown: case.previous.clone() };
-        compare::read_back(library_reads, &written, &once.work, seed)?;
-        let twice = compare::rewriting(library_rewrites, Mistake::None, &again, seed)?;
+        compare::read_back(library::reads, &written, &once.work, seed)?;
+        let twice = compare::rewriting(library::rewrites, Mistake::None, &again, seed)?;
         compare::check_content("the frame rewritten twice", &twice.out, &once.out).map_err(|what| Difference {
             library: format!("{:?}", twice.answer),
             model: format!("{:?}", once.answer),
@@ -417,7 +314,7 @@ fn named_examples(base: u64) {
             out: vec![0xEE; 1000],
         };
         let mut call = WriteCall::lending(&case, base);
-        let answer = library_writes(&mut call);
+        let answer = library::writes(&mut call);
         let wanted = house_frame(&example.chunks);
         let written = &call.out.content()[..(answer.length as usize).min(1000)];
         if answer.number != 0 || written != wanted {

@@ -1,0 +1,113 @@
+//! The library's functions, for the programs that link `libcapi.a`; a program takes this file in by its path and uses what it needs.
+#![allow(dead_code)]
+
+use flic_tests::boundary::{FlicAnswer, FlicWritten, ReadCall, RewriteCall, WriteCall};
+
+extern "C" {
+    fn flic_read_frame(
+        bytes: *const u8,
+        bytes_length: usize,
+        width: u64,
+        height: u64,
+        picture: *mut u8,
+        picture_length: usize,
+        palette: *mut u8,
+        palette_length: usize,
+    ) -> FlicAnswer;
+
+    fn flic_write_frame(
+        width: u64,
+        height: u64,
+        previous_picture: *const u8,
+        previous_picture_length: usize,
+        previous_palette: *const u8,
+        previous_palette_length: usize,
+        next_picture: *const u8,
+        next_picture_length: usize,
+        next_palette: *const u8,
+        next_palette_length: usize,
+        out: *mut u8,
+        out_length: usize,
+    ) -> FlicWritten;
+
+    fn flic_rewrite_frame(
+        bytes: *const u8,
+        bytes_length: usize,
+        width: u64,
+        height: u64,
+        previous_picture: *const u8,
+        previous_picture_length: usize,
+        previous_palette: *const u8,
+        previous_palette_length: usize,
+        work_picture: *mut u8,
+        work_picture_length: usize,
+        work_palette: *mut u8,
+        work_palette_length: usize,
+        out: *mut u8,
+        out_length: usize,
+    ) -> FlicWritten;
+}
+
+/// Reads one frame.
+pub fn reads(call: &mut ReadCall) -> FlicAnswer {
+    let (bytes, picture, palette) = (&mut call.bytes, &mut call.shown.picture, &mut call.shown.palette);
+    // SAFETY: each pointer goes with its own slice's length, and the slices don't overlap.
+    unsafe {
+        flic_read_frame(
+            bytes.pointer(),
+            bytes.length(),
+            call.width,
+            call.height,
+            picture.pointer(),
+            picture.length(),
+            palette.pointer(),
+            palette.length(),
+        )
+    }
+}
+
+/// Writes one frame.
+pub fn writes(call: &mut WriteCall) -> FlicWritten {
+    let (previous, next, out) = (&mut call.previous, &mut call.next, &mut call.out);
+    // SAFETY: each pointer goes with its own slice's length, and the slices don't overlap.
+    unsafe {
+        flic_write_frame(
+            call.width,
+            call.height,
+            previous.picture.pointer(),
+            previous.picture.length(),
+            previous.palette.pointer(),
+            previous.palette.length(),
+            next.picture.pointer(),
+            next.picture.length(),
+            next.palette.pointer(),
+            next.palette.length(),
+            out.pointer(),
+            out.length(),
+        )
+    }
+}
+
+/// Rewrites one frame.
+pub fn rewrites(call: &mut RewriteCall) -> FlicWritten {
+    let (bytes, previous, work, out) = (&mut call.bytes, &mut call.previous, &mut call.work, &mut call.out);
+    // SAFETY: each pointer goes with its own slice's length, and the slices don't overlap.
+    unsafe {
+        flic_rewrite_frame(
+            bytes.pointer(),
+            bytes.length(),
+            call.width,
+            call.height,
+            previous.picture.pointer(),
+            previous.picture.length(),
+            previous.palette.pointer(),
+            previous.palette.length(),
+            work.picture.pointer(),
+            work.picture.length(),
+            work.palette.pointer(),
+            work.palette.length(),
+            out.pointer(),
+            out.length(),
+        )
+    }
+}
