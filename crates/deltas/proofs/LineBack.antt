@@ -27,7 +27,7 @@ use Rattle.ss2.proofs.Laws.{last-there, line-there, linesFrom, lines-row}
 use Rattle.cells.specs.Cells.{Cell, cells}
 use Rattle.cells.proofs.CellLaws.{sized-cells, olds-cells, news-cells, split}
 use Rattle.delta_lines.specs.Line.{Packet, packetBytes, bytes, pairPackets, rowPackets, counted, lastChanges, line}
-use Rattle.deltas.proofs.Turns.{Turns, done, copied, again, turns-count, turns-bytes, packets-turn}
+use Rattle.deltas.proofs.Turns.{Turns, done, copied, again, turns-count, packets-turn}
 
 -- the packets of a row
 
@@ -283,15 +283,3 @@ line-gives w h b r some wide lo ln small row at n pre post more end e rh there l
         (ap (λ (j : ℕ). drop j b) (sym four) ∙ there-drop b (v ∷ 128 ∷ le16 (length ps) []) (bytes ps ++ more) at 4 there′ refl) refl (omega (arith, ls)) (omega arith)))
         (gives-as (ap (λ (j : ℕ). linesFrom w h b n (row + 1) j) (sym to))
         (gives-to refl (ap (λ (l : List ℕ). pre ++ l) (parts (r .new) ∙ ap (λ (x : List ℕ). t ++ (x ++ post)) (tail-odd w (r .new) ln odd))) refl below)))
-
--- its length
-
-pub line-short : (w : ℕ) (r : Cell) → length (r .old) ≡ w → length (r .new) ≡ w → length (line w r) ≤ 4 + 2 * w
-line-short w r lo ln = go (lastChanges w r) refl
-  where
-    few : length (bytes (rowPackets w r)) ≤ 2 * w
-    few = omega (arith, turns-bytes (row-turns w r lo ln), length-take-le (w / 2 * 2) (r .old) (omega arith))
-
-    go : (t : Bool) → lastChanges w r ≡ t → length (line w r) ≤ 4 + 2 * w
-    go true e = omega (arith, ap length (line-is w r true e), few)
-    go false e = omega (arith, ap length (line-is w r false e), few)

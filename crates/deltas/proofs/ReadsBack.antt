@@ -20,7 +20,7 @@ use Rattle.cells.specs.Cells.{Cell, cells, news, Stretch, stretches}
 use Rattle.cells.proofs.CellLaws.{olds, Sized, sized-append, olds-append, news-append, length-olds, length-news, sized-cells, length-cells, olds-cells, news-cells, Split, rest, part, split}
 use Rattle.delta_lines.specs.Line.{line}
 use Rattle.deltas.specs.Delta.{lines, skipWord, stretchLines, changes, lineCount, deltaBody}
-use Rattle.deltas.proofs.LineBack.{word-down, line-gives, line-short}
+use Rattle.deltas.proofs.LineBack.{word-down, line-gives}
 
 module _ (w h : ℕ) (b : List ℕ) where
   lines-at : (n n′ row row′ at at′ : ℕ) → n ≡ n′ → row ≡ row′ → at ≡ at′ → linesFrom w h b n row at ≡ linesFrom w h b n′ row′ at′
@@ -119,39 +119,3 @@ delta-reads-back w h p q some wide high lp lq small =
     (gives-to refl was is
     (rows-give w h b (split cs) some wide high (sized-cells w h p q (omega arith) (omega arith)) (subst Bytes (sym is) small) 0 2 [] (length b)
     (omega (arith, length-cells w h p q)) refl (omega arith) (omega arith)))
-
--- its length
-
-module _ (w : ℕ) (wide : w ≤ maxWidth) where
-  lines-short : (rs : List Cell) → Sized w rs → length (lines w rs) ≤ 644 * length rs
-  unfolding flatMap
-  lines-short [] z = omega arith
-  lines-short (r ∷ rs) z = omega (arith, lines-short rs (z .2), line-short w r (z .0) (z .1), length-append (line w r) (lines w rs))
-
-  skip-short : (g : ℕ) → length (skipWord g) ≤ 2
-  unfolding skipWord
-  skip-short zero = omega arith
-  skip-short (suc g) = omega arith
-
-  rows-short : {ss : List Stretch} {cs : List Cell} → Split ss cs → Sized w cs → length (flatMap (stretchLines w) ss) ≤ 646 * length cs
-  unfolding flatMap stretchLines
-  rows-short (rest e) z = omega arith
-  rows-short (part {ss} still cs more c e m) z =
-      let zs = sized-append w still ((c ∷ cs) ++ more) z in
-      let zc = sized-append w (c ∷ cs) more (zs .1) in
-      let g = length still in
-      omega (
-        arith,
-        rows-short m (zc .1),
-        lines-short (c ∷ cs) (zc .0),
-        skip-short g,
-        length-append (skipWord g ++ lines w (c ∷ cs)) (flatMap (stretchLines w) ss),
-        length-append (skipWord g) (lines w (c ∷ cs)),
-        length-append still ((c ∷ cs) ++ more),
-        length-append (c ∷ cs) more,
-      )
-
-pub delta-short : (w h : ℕ) (p q : List ℕ) → w ≤ maxWidth → length p ≡ w * h → length q ≡ w * h → length (deltaBody w h p q) ≤ 2 + 646 * h
-unfolding deltaBody changes
-delta-short w h p q wide lp lq =
-    omega (arith, rows-short w wide (split (cells w h p q)) (sized-cells w h p q (omega arith) (omega arith)), length-cells w h p q)

@@ -12,7 +12,7 @@ use Rattle.words.proofs.Laws.{same-eq}
 use Rattle.packets.specs.Packets.{repeated}
 use Rattle.cells.specs.Cells.{Cell, news, Stretch}
 use Rattle.cells.proofs.CellLaws.{olds, Sized, sized-append, sized-take, sized-drop, olds-append, news-append, length-olds, length-news, Split, rest, part}
-use Rattle.delta_lines.specs.Line.{Packet, copy, repeat, packetBytes, bytes, taken, equals, repeats, singles, packet, packed, shortenings, spanPackets, stretchPackets}
+use Rattle.delta_lines.specs.Line.{Packet, copy, repeat, bytes, taken, equals, repeats, singles, packet, packed, shortenings, spanPackets, stretchPackets}
 use Rattle.delta_lines.proofs.PairLaws.{equals-itself, equals-le, singles-some, singles-le}
 use Rattle.delta_lines.proofs.PacketLaws.{packet-repeat, packet-copy, packed-next}
 
@@ -33,15 +33,6 @@ turns-count (copied gap old s′ t′ g m some o n es et r) =
     omega (arith, turns-count r, ap length es, length-append gap (old ++ s′), length-append old s′)
 turns-count (again gap old s′ t′ g some m o n es et r) =
     omega (arith, turns-count r, ap length es, length-append gap (old ++ s′), length-append old s′)
-
--- and has at most two bytes for each
-pub turns-bytes : {ps : List Packet} {s t : List ℕ} → Turns ps s t → length (bytes ps) ≤ 2 * length s
-unfolding flatMap packetBytes
-turns-bytes (done e) = omega arith
-turns-bytes (copied {ps} {s} {t} {k} {vs} gap old s′ t′ g m some o n es et r) =
-    omega (arith, turns-bytes r, ap length es, length-append gap (old ++ s′), length-append old s′, length-append (flatten vs) (bytes ps))
-turns-bytes (again {ps} {s} {t} {k} {n} {v} gap old s′ t′ g some m o lv es et r) =
-    omega (arith, turns-bytes r, ap length es, length-append gap (old ++ s′), length-append old s′, length-append v (bytes ps))
 
 turns-as : {ps ps′ : List Packet} {s s′ t t′ : List ℕ} → ps ≡ ps′ → s ≡ s′ → t ≡ t′ → Turns ps s t → Turns ps′ s′ t′
 turns-as {ps} {ps′} {s} {s′} {t} {t′} e f g r =

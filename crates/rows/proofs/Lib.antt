@@ -5,3 +5,4 @@ pub mod Windows
 pub mod Steps
 pub mod Searching
 pub mod Writing
+pub mod Apart

@@ -185,10 +185,6 @@ bytes-getD [] i h = omega arith
 bytes-getD (x ∷ xs) zero h = h .0
 bytes-getD (x ∷ xs) (suc i) h = bytes-getD xs i (h .1)
 
-pub bytes-all : (xs : List ℕ) → ((i : ℕ) → getD xs i 0 < 256) → Bytes xs
-bytes-all [] h = tt
-bytes-all (x ∷ xs) h = (h 0, bytes-all xs (λ i. h (suc i)))
-
 pub bytes-take : (n : ℕ) (xs : List ℕ) → Bytes xs → Bytes (take n xs)
 bytes-take zero xs h = tt
 bytes-take (suc n) [] h = tt
