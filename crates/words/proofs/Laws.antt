@@ -156,6 +156,26 @@ module _ (a b : List ℕ) (i : ℕ) (l : length a ≡ length b) where
   unfolding same
   same-ends h = ap₂ same (drop-of-length-le a {i = i} h) (drop-of-length-le b {i = i} (omega arith))
 
+  -- the same with whether a byte differed before, other being 0 or not: at an equal byte, at another, at the end
+  pub same-kept : (other : ℕ) → i < length a → same a b ≡ pick (eqb other 0) (same (drop i a) (drop i b)) false → getD a i 0 ≡ getD b i 0
+      → same a b ≡ pick (eqb other 0) (same (drop (suc i) a) (drop (suc i) b)) false
+  same-kept other h e f = e ∙ ap (λ (t : Bool). pick (eqb other 0) t false) (same-goes h f)
+
+  pub same-lost : (other : ℕ) → i < length a → same a b ≡ pick (eqb other 0) (same (drop i a) (drop i b)) false → (getD a i 0 ≡ getD b i 0 → ⊥)
+      → same a b ≡ false
+  same-lost other h e f = go (eqb other 0) e
+    where
+      go : (t : Bool) → same a b ≡ pick t (same (drop i a) (drop i b)) false → same a b ≡ false
+      go true e = e ∙ same-stops h f
+      go false e = e
+
+  pub same-told : (other : ℕ) → length a ≤ i → same a b ≡ pick (eqb other 0) (same (drop i a) (drop i b)) false → eqb other 0 ≡ same a b
+  same-told other h e = sym (e ∙ go (eqb other 0))
+    where
+      go : (t : Bool) → pick t (same (drop i a) (drop i b)) false ≡ t
+      go true = same-ends h
+      go false = refl
+
 -- writes that lie within the first n bytes
 
 abbrev pub Inside : ℕ → List Write → Type 0

@@ -59,19 +59,20 @@ pub fn fill(part: &mut [u8], value: u8)
     }
 }
 
-// Whether two slices of one length hold the same bytes.
+// Whether two slices of one length hold the same bytes. No early exit: so the loop compares many bytes at a time.
 pub fn same_bytes(a: &[u8], b: &[u8]) -> bool
     requires { ⌜ length (now a) ≡ length (now b) ⌝ }
     ensures { λ r. ⌜ r ≡ same (now (a .entry)) (now (b .entry)) ⌝ }
 {
+    let mut other = 0;
     let mut i = 0;
     while i < a.len() {
         if a[i] != b[i] {
-            return false;
+            other = 1;
         }
         i += 1;
     }
-    true
+    other == 0
 }
 
 // Stores the bytes x and y.

@@ -1,20 +1,23 @@
--- `same_bytes` meets its contract. The invariant: the two are the same if they are the same from i on.
-use borrow.Author.Needs.{needs}
-use mathlib.Core.Path.{_≡_, _∙_, sym}
-use Prim.Native.Nat.{_≤_, _-_}
-use native.Mathlib.Omega.{arith}
-use native.Mathlib.Numerals.{add-one}
+-- `same_bytes` meets its contract. The invariant: the two are the same if no byte differed before i and they are the same from i on.
+use Rattle.words.proofs.Laws.{same-kept, same-lost, same-told}
+use Rattle.words.specs.Words.{pick, same}
 use lib.ListN.{length, drop}
-use Rattle.words.specs.Words.{same}
-use Rattle.words.proofs.Laws.{same-goes, same-stops, same-ends}
+use lib.Dec.{eqb}
+use native.Mathlib.Numerals.{add-one}
+use native.Mathlib.Omega.{arith}
+use Prim.Native.Nat.{ℕ, _≤_, _-_, _+_}
+use mathlib.Core.Logic.{⊎-elim}
+use mathlib.Core.Bool.{false}
+use mathlib.Core.Path.{_≡_, ap, _∙_, sym}
+use borrow.Author.Needs.{needs}
 use Rattle.words.proofs.same_bytes.Statement.{statement}
 use Rattle.words.proofs.same_bytes.Tie as tie
 
 abbrev Inv-loop : tie.InvT-loop
-Inv-loop a b i₀ i = (i ≤ length a) × (same a b ≡ same (drop i a) (drop i b))
+Inv-loop a b other₀ i₀ other i = (i ≤ length a) × (same a b ≡ pick (eqb other 0) (same (drop i a) (drop i b)) false)
 
 abbrev μ-loop : tie.MeasureT-loop
-μ-loop a b i₀ i = length a - i
+μ-loop a b other₀ i₀ other i = length a - i
 
 loop-holds : tie.Need-loop-holds Inv-loop μ-loop
 loop-holds c = search needs
@@ -24,12 +27,6 @@ shared-slice-read-if1 c = search needs
 
 shared-slice-read-if1-2 : tie.Need-shared-slice-read-if1-2 Inv-loop μ-loop
 shared-slice-read-if1-2 c = search needs
-
-returns : tie.Need-returns Inv-loop μ-loop
-returns c =
-    let l = c .before .before .before .before .loop in
-    let S = c .before .before .before .before .before in
-    sym (l .inv .1 ∙ same-stops (S .args .a .now) (S .args .b .now) (l .i) (S .pre) (c .before .before .before .loop-test .taken) (c .if1 .taken))
 
 add-i : tie.Need-add-i Inv-loop μ-loop
 add-i c = search needs
@@ -41,13 +38,24 @@ loop-again : tie.Need-loop-again Inv-loop μ-loop
 loop-again c =
     let l = c .before .before .before .before .loop in
     let S = c .before .before .before .before .before in
-    (omega arith, l .inv .1 ∙ rw add-one (same-goes (S .args .a .now) (S .args .b .now) (l .i) (S .pre) (c .before .before .before .loop-test .taken) (c .if1 .left)))
+    let T = c .before .before .before in
+    let a = S .args in (
+      omega arith,
+      ⊎-elim {C = same (a .a .now) (a .b .now) ≡ pick (eqb (c .if1 .other) 0) (same (drop (l .i + 1) (a .a .now)) (drop (l .i + 1) (a .b .now))) false}
+          (λ w.
+          same-lost (a .a .now) (a .b .now) (l .i) (S .pre) (l .other) (T .loop-test .taken) (l .inv .1) (w .0 .taken)
+          ∙ ap (λ (n : ℕ). pick (eqb n 0) (same (drop (l .i + 1) (a .a .now)) (drop (l .i + 1) (a .b .now))) false) (sym (w .1)))
+          (λ w.
+          rw add-one (same-kept (a .a .now) (a .b .now) (l .i) (S .pre) (l .other) (T .loop-test .taken) (l .inv .1) (w .0 .left))
+          ∙ ap (λ (n : ℕ). pick (eqb n 0) (same (drop (l .i + 1) (a .a .now)) (drop (l .i + 1) (a .b .now))) false) (sym (w .1)))
+          (c .if1 .came),
+    )
 
-returns-2 : tie.Need-returns-2 Inv-loop μ-loop
-returns-2 c =
+returns : tie.Need-returns Inv-loop μ-loop
+returns c =
     let l = c .before .loop in
-    let S = c .before .before in
-    sym (l .inv .1 ∙ same-ends (S .args .a .now) (S .args .b .now) (l .i) (S .pre) (c .loop-test .left))
+    let a = c .before .before .args in
+    same-told (a .a .now) (a .b .now) (l .i) (c .before .before .pre) (l .other) (c .loop-test .left) (l .inv .1)
 
 pub same-bytes-spec : {M : Type 1} → statement M
 same-bytes-spec =
@@ -58,8 +66,7 @@ same-bytes-spec =
     loop-holds
     shared-slice-read-if1
     shared-slice-read-if1-2
-    returns
     add-i
     loop-less
     loop-again
-    returns-2)
+    returns)
