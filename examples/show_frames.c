@@ -61,7 +61,7 @@ int main(int count, char **words)
         return 2;
     }
     uint64_t width = strtoull(words[1], NULL, 10), height = strtoull(words[2], NULL, 10);
-    static uint8_t picture[320 * 200], palette[768], work_picture[320 * 200], work_palette[768], out[1 << 17];
+    static uint8_t picture[320 * 200], palette[768], work_picture[320 * 200], work_palette[768], out[FLIC_FRAME_MOST];
     for (int i = 3; i < count; i++) {
         size_t n;
         unsigned char *bytes = whole_file(words[i], &n);

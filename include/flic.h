@@ -27,6 +27,9 @@ flic_answer flic_read_frame(const uint8_t *bytes, size_t bytes_len,
                             uint8_t *picture, size_t picture_len,
                             uint8_t *palette, size_t palette_len);
 
+/* No frame that is written has more bytes: an output of this length is never refused 3. */
+#define FLIC_FRAME_MOST 65310
+
 /* number 0: done, with how many bytes were written; the rest of the output stays as it was.
  * A refusal has length 0 and leaves all lent memory as it was, but for a rewrite's working pair (see below). */
 typedef struct {

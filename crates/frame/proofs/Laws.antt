@@ -192,3 +192,6 @@ pub enough-in : (n : ℕ) (p q : List ℕ) → enough n p q ≡ true → (n ≤ 
 enough-in n p q e =
     let t = both-true (leb n (length p)) (leb 768 (length q)) e in
     (leb-true n (length p) (t .0), leb-true 768 (length q) (t .1))
+
+pub enough-is : (n : ℕ) (p q : List ℕ) → n ≤ length p → 768 ≤ length q → enough n p q ≡ true
+enough-is n p q h k = rw (le-leb n (length p) h, le-leb 768 (length q) k)

@@ -10,7 +10,7 @@ use native.Mathlib.Omega.{arith}
 use lib.Dec.{leb}
 use lib.ListN.{length, take, drop, length-append, length-drop}
 use lib.Seq.{length-take-le, take-at}
-use borrow.Author.Tests.{ne-eqb}
+use borrow.Author.Tests.{le-leb, ne-eqb}
 use Rattle.words.specs.Words.{pick, u32At, chunk, same, Bytes}
 use Rattle.words.specs.Writes.{Write, put, written}
 use Rattle.words.proofs.Laws.{put-front, same-eq, length-chunk, bytes-take}
@@ -28,7 +28,7 @@ use Rattle.fulls.proofs.FullLeast.{FullLeast, full-least}
 use Rattle.answer.specs.declared.Verdict.the-variants.{Ends}
 use Rattle.frame.specs.Frame.{ChunkWalk, FrameWalk, subChunk, frame}
 use Rattle.frame.specs.Reading.{outcome, played, front, enough, settled, readFrame}
-use Rattle.frame.proofs.Laws.{read-settled, enough-in}
+use Rattle.frame.proofs.Laws.{read-settled, enough-in, enough-is}
 use Rattle.frame.proofs.Theorems.{picture-kept, palette-kept}
 use Rattle.frame.proofs.Bytewise.{frame-bytewise}
 use Rattle.house.proofs.Laws.{picture-short}
@@ -37,7 +37,7 @@ use Rattle.answer.specs.declared.Written.the-variants as wrote
 use Rattle.house.specs.Writing.{Output, output, fitted}
 use Rattle.roundtrip.specs.Plays.{Plays}
 use Rattle.roundtrip.proofs.Frames.{framed-field}
-use Rattle.roundtrip.proofs.ReadsBack.{Sized, Good, good-picture, black-walk, brun-walk, copy-walk, subs-small, house-reads-back}
+use Rattle.roundtrip.proofs.ReadsBack.{Sized, Good, good-picture, black-walk, brun-walk, copy-walk, house-small, subs-small, house-reads-back}
 use Rattle.rewrite.proofs.Subs.{same-first, Described, none, more, framed-described, Single, frame-single}
 use Rattle.rewrite.specs.Rewriting.{Rewritten, rewrote, untouched, rewriteFrame}
 use Rattle.rewrite.specs.Demand3 as words
@@ -402,9 +402,24 @@ module _ (w h : ℕ) (p q : List ℕ) (bp : Bytes p) where
         full-shorter w h (frame w h c) old new kind size (length-take-le (w * h) p (long w h p q b tb .0)) f (frame-single w h c kind size (tc .answer) one) pictures,
       )
 
+  room-part : (b wp wq out : List ℕ) → Bytes b → Accepted w h p q b → w * h ≤ length wp → 768 ≤ length wq → 65310 ≤ length out
+      → RoomEnough (rewriteFrame b w h p q wp wq out)
+  room-part b wp wq out bb a lw lq lo =
+      let t = taken b w h p q a in
+      let i = size-in w h (t .size) in
+      let s = was w h p q in
+      let g = gives w h p q b in
+      let short = house-small w h s g (i .0) (i .1) (i .2) (i .3) (was-sized w h p q b t bp) (gives-sized w h p q b t bp bb) in
+      let e : rewriteFrame b w h p q wp wq out .said ≡ done (length (houseFrame w h s g) ∷ []) =
+      ap (λ (o : Rewritten). o .said) (rewrite-as w h p q b wp wq out t)
+      ∙ ap (λ (c : Bool). pick c (rewrote w h s g wp wq out) (untouched ShortSlice 0 wp wq out) .said) (enough-is (w * h) wp wq lw lq)
+      ∙ ap (λ (c : Bool). tested c (houseFrame w h s g) out .said) (le-leb (length (houseFrame w h s g)) (length out) (omega arith)) in
+      record { no-short-slice = λ place f. refused-not-done (sym f ∙ e); no-short-output = λ place f. refused-not-done (sym f ∙ e) }
+
   pub demand3 : Demand3 w h p q
   demand3 =
       record {
+        room-can-be-had = λ b wp wq out bb a lw lq lo. room-part b wp wq out bb a lw lq lo;
         rewriting-is-done = λ b wp wq out bb a room. done-part b wp wq out bb a room;
         same-bytes-same-state = λ b wp wq out b′ wp′ wq′ out′ bb a room bb′ a′ room′. (
           λ e. bytes-to-states b wp wq out b′ wp′ wq′ out′ bb a room bb′ a′ room′ e,

@@ -81,6 +81,9 @@ module _ (w h : ℕ) (p q : List ℕ) where
   rewrite b wp wq out = rewriteFrame b w h p q wp wq out
 
   pub record Demand3 : Type 0 where
+    -- room enough can be had: a working pair that holds a picture and a palette, and an output of 65,310 bytes
+    pub room-can-be-had : (b wp wq out : List ℕ) → Bytes b → Accepted b → w * h ≤ length wp → 768 ≤ length wq → 65310 ≤ length out
+        → RoomEnough (rewrite b wp wq out)
     -- "For every two frames that the reader accepts there, and whatever the output and the working pictures and palettes held before,
     -- rewriting each in house form is done"; "The bytes written are the whole frame's, as many as its size field says"
     pub rewriting-is-done : (b wp wq out : List ℕ) → Bytes b → Accepted b → RoomEnough (rewrite b wp wq out)
