@@ -12,7 +12,7 @@ use lib.Seq.{length-take-le}
 use lib.Dec.{leb}
 use Rattle.words.specs.Words.{pick, u16At}
 use Rattle.words.specs.Writes.{put, written}
-use Rattle.words.proofs.Laws.{Inside}
+use Rattle.words.proofs.Laws.{Inside, false-not-true}
 use Rattle.answer.proofs.Laws.{VerdictIn}
 use Rattle.answer.specs.Walk.{Walk, ends, fault, andThen}
 use Rattle.colour.specs.Colour.{level, levelsOk, countOf, packets, packetOf, packetAt, afterPacket, colour}
@@ -42,16 +42,9 @@ and-left : (a b : Bool) → (a && b) ≡ true → a ≡ true
 and-left true b h = refl
 and-left false b h = h
 
-abbrev is-false : Bool → Type 0
-is-false true = ⊥
-is-false false = Unit {0}
-
-pub false-true : false ≡ true → ⊥
-false-true e = subst is-false e tt
-
 and-right : (a b : Bool) → (a && b) ≡ true → b ≡ true
 and-right true b h = h
-and-right false b h = absurd (false-true h)
+and-right false b h = false-not-true h
 
 pub level-small : (xs : List ℕ) (i : ℕ) → levelsOk true xs ≡ true → i < length xs → getD xs i 0 ≤ 63
 unfolding levelsOk

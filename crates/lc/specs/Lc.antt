@@ -1,7 +1,6 @@
 -- Kind 12, LC (document 01, "Frames, chunks and rows"), as a walk over the body's bytes.
 use Prim.Native.Nat.{ℕ, zero, suc, _+_}
 use mathlib.Core.List.{List}
-use mathlib.Core.Bool.{Bool, true, false}
 use lib.ListN.{length, getD}
 use lib.Dec.{leb}
 use Rattle.words.specs.Words.{pick, u16At}

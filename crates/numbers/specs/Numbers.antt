@@ -1,16 +1,16 @@
 -- Document 01, "Numbers to try (P: proved)": one table. `holds` computes each item from the definitions of reading and of the house form.
-use Prim.Native.Nat.{ℕ, zero, suc, _+_, _*_, _%_}
+use Prim.Native.Nat.{ℕ, zero, suc, _+_}
 use mathlib.Core.List.{List, [], _∷_, _++_}
 use mathlib.Core.Bool.{Bool, true, false, _&&_}
 use lib.Dec.{eqb}
 use lib.ListN.{length, getD, replicate}
-use Rattle.words.specs.Words.{pick, same}
+use Rattle.words.specs.Words.{same}
 use Rattle.words.specs.Writes.{Write}
 use Rattle.answer.specs.Answer.{number, State, blank}
 use Rattle.answer.specs.Format.{FLI-COLOR256, FLI-SS2}
 use Rattle.answer.specs.declared.Verdict.{Verdict}
 use Rattle.answer.specs.declared.Verdict.the-variants.{Ends, Fault}
-use Rattle.frame.specs.Frame.{ChunkWalk, subChunk}
+use Rattle.frame.specs.Frame.{subChunk}
 use Rattle.rows.specs.Row.{houseBytes}
 use Rattle.deltas.specs.Delta.{deltaBody}
 use Rattle.house.specs.House.{houseFrame}

@@ -2,7 +2,6 @@
 -- unit: how many pixels one of them is, 1 in LC and 2 in SS2.
 use Prim.Native.Nat.{ℕ, zero, suc, _+_, _-_, _*_}
 use mathlib.Core.List.{List, [], _++_}
-use mathlib.Core.Bool.{Bool, true, false}
 use lib.ListN.{length, getD, take, drop}
 use lib.Dec.{leb, ltb}
 use Rattle.words.specs.Words.{pick, magnitude}

@@ -1,7 +1,6 @@
 -- Kind 7, SS2 (document 01, "Frames, chunks and rows"), as a walk over the body's bytes.
 use Prim.Native.Nat.{ℕ, zero, suc, _+_, _-_, _*_, _/_, _%_}
 use mathlib.Core.List.{List, [], _∷_}
-use mathlib.Core.Bool.{Bool, true, false}
 use lib.ListN.{length}
 use lib.Dec.{leb, ltb}
 use Rattle.words.specs.Words.{pick, u16At}

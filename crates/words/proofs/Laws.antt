@@ -119,7 +119,7 @@ put-two d at x y h =
 
 -- bytes compared
 
-false-not-true : {C : Type 0} → false ≡ true → C
+pub false-not-true : {C : Type 0} → false ≡ true → C
 false-not-true e = let z : _≡_ {A = ℕ} 0 1 = cc in absurd (omega arith)
 
 pub same-eq : (a b : List ℕ) → same a b ≡ true → a ≡ b

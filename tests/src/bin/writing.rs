@@ -9,6 +9,7 @@ use flic_tests::cases::{Family, ReadCase};
 use flic_tests::command::{fail, require_seen, task_or_exit, Task};
 use flic_tests::compare::{self, hex, Difference};
 use flic_tests::model::encode::{Mistake, REWRITE_MISTAKES, WRITE_MISTAKES};
+use flic_tests::model::rng::Rng;
 use flic_tests::model::{kind, PALETTE_BYTES};
 use flic_tests::states::State;
 use flic_tests::tally::Tally;
@@ -18,6 +19,8 @@ use flic_tests::write_cases::{
 
 const BASE_SEED: u64 = 20_261;
 const SELF_CHECK_BATCHES: u64 = 3_000;
+/// The bytes that hold every frame, as include/flic.h says.
+const FLIC_FRAME_MOST: usize = 65_310;
 const HOUSE_KINDS: [u16; 5] = [kind::COLOR256, kind::SS2, kind::BLACK, kind::BRUN, kind::COPY];
 
 /// What the two halves of a run have met.
@@ -55,6 +58,7 @@ fn whole_run(base: u64) {
     println!("writing: base seed {base}; a batch's seed follows from it, the family and the batch's number");
     self_check(base);
     named_examples(base);
+    largest_picture(base);
     let mut tallies = Tallies::new();
     for family in &WRITE_FAMILIES {
         run_family(family, base, &mut tallies, write_batch);
@@ -325,4 +329,27 @@ fn named_examples(base: u64) {
         }
     }
     println!("writing: {} examples of document 01 written as it says", examples().len());
+}
+
+/// The largest picture and every colour change to noise: an output of FLIC_FRAME_MOST bytes holds the frame.
+fn largest_picture(base: u64) {
+    let (width, height) = (320, 200);
+    let mut rng = Rng::new(base);
+    let mut noise = || State { picture: rng.bytes(width * height), palette: rng.bytes(PALETTE_BYTES) };
+    let (previous, next) = (noise(), noise());
+    let out = vec![0xEE; FLIC_FRAME_MOST];
+    let case = WriteCase { width: width as u64, height: height as u64, previous, next, out };
+    match check_write(&case, base) {
+        Ok((answer, _)) if answer.number == 0 => {
+            println!("writing: the largest picture of noise takes {} of FLIC_FRAME_MOST bytes", answer.length);
+        }
+        Ok((answer, _)) => {
+            let refused = format!("writing: the largest picture is refused {}", answer.number);
+            fail(&refused, "raise FLIC_FRAME_MOST in include/flic.h, and the promise in docs/PROMISES.md with it")
+        }
+        Err(difference) => {
+            let differs = format!("writing: the largest picture differs from the model: {}", difference.what);
+            fail(&differs, "write this picture alone and follow the first byte that differs")
+        }
+    }
 }
