@@ -54,6 +54,10 @@ maxWidth = 320
 abbrev pub maxHeight : ℕ
 maxHeight = 200
 
+-- "frames 1 to 4,000"
+abbrev pub maxFrames : ℕ
+maxFrames = 4000
+
 abbrev pub sizeOk : ℕ → ℕ → Bool
 sizeOk w h = leb 1 w && (leb w maxWidth && (leb 1 h && leb h maxHeight))
 

@@ -1,5 +1,9 @@
--- The type of a frame chunk, and the kinds of its sub-chunks, by the names of document 001.
+-- The magic of a file, the type of a frame chunk, and the kinds of its sub-chunks, by the names of document 001.
 use Prim.Native.Nat.{ℕ}
+
+-- hex AF12
+abbrev pub FLC-MAGIC : ℕ
+FLC-MAGIC = 44818
 
 -- hex F1FA
 abbrev pub FRAME-TYPE : ℕ

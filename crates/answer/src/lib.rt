@@ -9,6 +9,12 @@ pub const MAX_HEIGHT: usize = 200;
 
 pub const PALETTE_BYTES: usize = 768;
 
+// The most frames of a reel, the ring not counted.
+pub const MAX_FRAMES: usize = 4000;
+
+// The magic of an FLC file.
+pub const FLC_MAGIC: usize = 0xaf12;
+
 // The type of a frame chunk, and the kinds of its sub-chunks, by the names of document 001.
 pub const FRAME_TYPE: usize = 0xf1fa;
 
