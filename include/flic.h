@@ -56,6 +56,55 @@ flic_written flic_rewrite_frame(const uint8_t *bytes, size_t bytes_len,
                                 uint8_t *work_palette, size_t work_palette_len,
                                 uint8_t *out, size_t out_len);
 
+/* A whole reel. A pair is a picture and a palette; the two working pairs of a check or a close are lent for it to
+ * play on, and their contents afterwards are fixed: once the checks up to refusal 1 have passed, done or refused, the
+ * first holds the state after the last accepted frame and the second that after frame 1, either blank (all 0) for none.
+ *
+ * Checks the file header, plays every frame and the ring, and compares: refused 16, with the ring's offset as its
+ * place, if the ring doesn't lead back to frame 1's picture and palette. In the first pair the ring counts too.
+ * What follows the ring is ignored. */
+flic_answer flic_check_reel(const uint8_t *bytes, size_t bytes_len,
+                            uint8_t *first_picture, size_t first_picture_len,
+                            uint8_t *first_palette, size_t first_palette_len,
+                            uint8_t *second_picture, size_t second_picture_len,
+                            uint8_t *second_palette, size_t second_palette_len);
+
+/* A reel being built, handed from call to call by value. Keep it as it came: what was altered is refused where it
+ * doesn't fit the bytes. closed: 0 while frames can be added, else the file is whole and end is its size. */
+typedef struct {
+    uint64_t width, height, frames, end;
+    uint32_t closed;
+} flic_reel;
+
+/* number 0: done, with the reel as it is now. A refusal has the reel as it was handed in (an open: all 0), and leaves
+ * the reel's bytes as they were. */
+typedef struct {
+    uint32_t number;
+    uint64_t place;
+    flic_reel reel;
+} flic_reel_answer;
+
+/* Opens a reel at the front of the lent bytes: writes the file header, 128 bytes. speed: milliseconds a frame shows.
+ * A reel of n frames never needs more than 128 + (n + 1) * FLIC_FRAME_MOST bytes. */
+flic_reel_answer flic_open_reel(uint64_t width, uint64_t height, uint32_t speed,
+                                uint8_t *bytes, size_t bytes_len);
+
+/* Adds the frame that leads from the picture and palette that show to the next. Hand in, as what shows, what the
+ * last add asked for, and blank (all 0) at first. */
+flic_reel_answer flic_add_frame(flic_reel reel, uint8_t *bytes, size_t bytes_len,
+                                const uint8_t *shown_picture, size_t shown_picture_len,
+                                const uint8_t *shown_palette, size_t shown_palette_len,
+                                const uint8_t *next_picture, size_t next_picture_len,
+                                const uint8_t *next_palette, size_t next_palette_len);
+
+/* Closes a reel: plays its frames from the bytes, writes the ring from the state in which that ends back to frame 1's,
+ * and sets size, frames, flags and both frame offsets in the header. The first end bytes are then the file. */
+flic_reel_answer flic_close_reel(flic_reel reel, uint8_t *bytes, size_t bytes_len,
+                                 uint8_t *first_picture, size_t first_picture_len,
+                                 uint8_t *first_palette, size_t first_palette_len,
+                                 uint8_t *second_picture, size_t second_picture_len,
+                                 uint8_t *second_palette, size_t second_palette_len);
+
 #ifdef __cplusplus
 }
 #endif

@@ -2,7 +2,7 @@
 
 use crate::boundary::{FlicAnswer, FlicWritten, LentState, ReadCall, RewriteCall, WriteCall};
 use crate::model::decode::read_frame;
-use crate::model::encode::{rewrite_frame, write_frame, Shown, Work};
+use crate::model::encode::{rewrite_frame, write_frame};
 use crate::model::lent::Lent;
 use crate::model::PALETTE_BYTES;
 
@@ -14,24 +14,18 @@ pub fn reads(call: &mut ReadCall) -> FlicAnswer {
 }
 
 pub fn writes(call: &mut WriteCall) -> FlicWritten {
-    let (previous, next) = (shown(&call.previous), shown(&call.next));
+    let (previous, next) = (call.previous.shown(), call.next.shown());
     FlicWritten::of(write_frame(call.width, call.height, previous, next, call.out.content_mut()))
 }
 
 pub fn rewrites(call: &mut RewriteCall) -> FlicWritten {
-    let LentState { picture, palette } = &mut call.work;
-    let work = Work { picture: picture.content_mut(), palette: palette.content_mut() };
-    let previous = shown(&call.previous);
+    let (previous, work) = (call.previous.shown(), call.work.work());
     let out = call.out.content_mut();
     FlicWritten::of(rewrite_frame(call.bytes.content(), call.width, call.height, previous, work, out))
 }
 
-fn shown(state: &LentState) -> Shown<'_> {
-    Shown { picture: state.picture.content(), palette: state.palette.content() }
-}
-
 /// Turns the bits of the slice's last byte, if it has one.
-fn spoil_last(lent: &mut Lent) {
+pub fn spoil_last(lent: &mut Lent) {
     if let Some(last) = lent.content_mut().last_mut() {
         *last = !*last;
     }

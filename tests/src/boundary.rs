@@ -1,6 +1,7 @@
 //! The C boundary as foreign callers see it: the answers' layout, and what a call lends.
 
 use crate::cases::ReadCase;
+use crate::model::encode::{Shown, Work};
 use crate::model::lent::Lent;
 use crate::model::rng::mix;
 use crate::model::Refusal;
@@ -49,11 +50,19 @@ pub struct LentState {
 }
 
 impl LentState {
-    fn holding(state: &State, seed: u64) -> LentState {
+    pub fn holding(state: &State, seed: u64) -> LentState {
         LentState {
             picture: Lent::holding(&state.picture, mix(seed, 1)),
             palette: Lent::holding(&state.palette, mix(seed, 2)),
         }
+    }
+
+    pub fn shown(&self) -> Shown<'_> {
+        Shown { picture: self.picture.content(), palette: self.palette.content() }
+    }
+
+    pub fn work(&mut self) -> Work<'_> {
+        Work { picture: self.picture.content_mut(), palette: self.palette.content_mut() }
     }
 }
 

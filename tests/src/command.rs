@@ -52,7 +52,7 @@ pub fn fail(what: &str, next: &str) -> ! {
 /// Ends a self-check in which something wrong was not seen.
 pub fn require_seen(name: &str, seen: Option<u64>) {
     match seen {
-        Some(frames) => println!("self-check: {name} seen after {frames} frames"),
+        Some(inputs) => println!("self-check: {name} seen after {inputs} inputs"),
         None => fail(&format!("self-check: {name} was not seen"), "add inputs to the families that show it"),
     }
 }

@@ -3,7 +3,7 @@
 use crate::boundary::{FlicAnswer, FlicWritten, LentState, ReadCall, Reader, RewriteCall, Rewriter, WriteCall, Writer};
 use crate::cases::ReadCase;
 use crate::model::decode::{self, read_frame_with};
-use crate::model::encode::{self, rewrite_frame_with, write_frame_with, Work};
+use crate::model::encode::{self, rewrite_frame_with, write_frame_with};
 use crate::model::lent::Lent;
 use crate::model::PALETTE_BYTES;
 use crate::states::State;
@@ -42,7 +42,7 @@ pub fn check_content(name: &str, found: &[u8], wanted: &[u8]) -> Result<(), Stri
 }
 
 /// A lent slice must hold what the model says, and its guards must stand.
-fn check_lent(name: &str, lent: &Lent, wanted: &[u8]) -> Result<(), String> {
+pub fn check_lent(name: &str, lent: &Lent, wanted: &[u8]) -> Result<(), String> {
     check_content(name, lent.content(), wanted)?;
     if lent.guards_hold() {
         return Ok(());
@@ -50,26 +50,26 @@ fn check_lent(name: &str, lent: &Lent, wanted: &[u8]) -> Result<(), String> {
     Err(format!("{name}: a byte outside the lent slice of {} bytes was written", lent.length()))
 }
 
-fn check_state(name: &str, lent: &LentState, wanted: &State) -> Result<(), String> {
+pub fn check_state(name: &str, lent: &LentState, wanted: &State) -> Result<(), String> {
     check_lent(&format!("{name} picture"), &lent.picture, &wanted.picture)?;
     check_lent(&format!("{name} palette"), &lent.palette, &wanted.palette)
 }
 
-fn check_place(place: u64, length: usize) -> Result<(), String> {
+pub fn check_place(place: u64, length: usize) -> Result<(), String> {
     if place <= length as u64 {
         return Ok(());
     }
     Err(format!("the place {place} lies past the {length} bytes handed in"))
 }
 
-fn check_answer<A: PartialEq>(found: A, wanted: A) -> Result<(), String> {
+pub fn check_answer<A: PartialEq>(found: A, wanted: A) -> Result<(), String> {
     if found == wanted {
         return Ok(());
     }
     Err("the answer".to_string())
 }
 
-fn answer_difference(found: FlicAnswer, wanted: FlicAnswer, what: String) -> Difference {
+pub fn answer_difference(found: FlicAnswer, wanted: FlicAnswer, what: String) -> Difference {
     let in_words = |answer: FlicAnswer| in_words(answer.number, answer.place);
     Difference { library: in_words(found), model: in_words(wanted), what }
 }
@@ -143,7 +143,7 @@ pub fn rewriting(
         case.width,
         case.height,
         case.previous.shown(),
-        Work { picture: &mut work.picture, palette: &mut work.palette },
+        work.work(),
         &mut out,
     ));
     check_answer(found, wanted)

@@ -7,16 +7,16 @@ use crate::model::{FRAME_HEADER, FRAME_TYPE};
 const COUNT_OFFSET: usize = 6;
 const TYPE_OFFSET: usize = 4;
 
-fn set_word(bytes: &mut [u8], offset: usize, word: u16) {
+pub fn set_word(bytes: &mut [u8], offset: usize, word: u16) {
     bytes[offset..offset + 2].copy_from_slice(&word.to_le_bytes());
 }
 
-fn set_size(bytes: &mut [u8], offset: usize, size: u32) {
+pub fn set_size(bytes: &mut [u8], offset: usize, size: u32) {
     bytes[offset..offset + 4].copy_from_slice(&size.to_le_bytes());
 }
 
 /// A size field around the limits that a header's checks have.
-fn wrong_size_field(rng: &mut Rng, right: usize, least: usize, enclosed: usize) -> u32 {
+pub fn wrong_size_field(rng: &mut Rng, right: usize, least: usize, enclosed: usize) -> u32 {
     match rng.below(8) {
         0 => rng.below(least + 1) as u32,
         1 => (least - 1) as u32,

@@ -8,6 +8,7 @@ pub mod compare;
 pub mod damage;
 pub mod frames;
 pub mod model;
+pub mod reels;
 pub mod sizes;
 pub mod states;
 pub mod tally;

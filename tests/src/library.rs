@@ -2,6 +2,8 @@
 #![allow(dead_code)]
 
 use flic_tests::boundary::{FlicAnswer, FlicWritten, ReadCall, RewriteCall, WriteCall};
+use flic_tests::model::reel::Reel;
+use flic_tests::reels::boundary::{AddCall, CheckCall, CloseCall, FlicReelAnswer, OpenCall};
 
 extern "C" {
     fn flic_read_frame(
@@ -46,6 +48,49 @@ extern "C" {
         out: *mut u8,
         out_length: usize,
     ) -> FlicWritten;
+
+    fn flic_check_reel(
+        bytes: *const u8,
+        bytes_length: usize,
+        first_picture: *mut u8,
+        first_picture_length: usize,
+        first_palette: *mut u8,
+        first_palette_length: usize,
+        second_picture: *mut u8,
+        second_picture_length: usize,
+        second_palette: *mut u8,
+        second_palette_length: usize,
+    ) -> FlicAnswer;
+
+    fn flic_open_reel(width: u64, height: u64, speed: u32, bytes: *mut u8, bytes_length: usize) -> FlicReelAnswer;
+
+    fn flic_add_frame(
+        reel: Reel,
+        bytes: *mut u8,
+        bytes_length: usize,
+        shown_picture: *const u8,
+        shown_picture_length: usize,
+        shown_palette: *const u8,
+        shown_palette_length: usize,
+        next_picture: *const u8,
+        next_picture_length: usize,
+        next_palette: *const u8,
+        next_palette_length: usize,
+    ) -> FlicReelAnswer;
+
+    fn flic_close_reel(
+        reel: Reel,
+        bytes: *mut u8,
+        bytes_length: usize,
+        first_picture: *mut u8,
+        first_picture_length: usize,
+        first_palette: *mut u8,
+        first_palette_length: usize,
+        second_picture: *mut u8,
+        second_picture_length: usize,
+        second_palette: *mut u8,
+        second_palette_length: usize,
+    ) -> FlicReelAnswer;
 }
 
 /// Reads one frame.
@@ -108,6 +153,74 @@ pub fn rewrites(call: &mut RewriteCall) -> FlicWritten {
             work.palette.length(),
             out.pointer(),
             out.length(),
+        )
+    }
+}
+
+/// Checks a whole reel.
+pub fn checks(call: &mut CheckCall) -> FlicAnswer {
+    let (bytes, first, second) = (&mut call.bytes, &mut call.first, &mut call.second);
+    // SAFETY: each pointer goes with its own slice's length, and the slices don't overlap.
+    unsafe {
+        flic_check_reel(
+            bytes.pointer(),
+            bytes.length(),
+            first.picture.pointer(),
+            first.picture.length(),
+            first.palette.pointer(),
+            first.palette.length(),
+            second.picture.pointer(),
+            second.picture.length(),
+            second.palette.pointer(),
+            second.palette.length(),
+        )
+    }
+}
+
+/// Opens a reel.
+pub fn opens(call: &mut OpenCall) -> FlicReelAnswer {
+    // SAFETY: the pointer goes with its slice's length.
+    unsafe { flic_open_reel(call.width, call.height, call.speed, call.bytes.pointer(), call.bytes.length()) }
+}
+
+/// Adds a frame to a reel.
+pub fn adds(call: &mut AddCall) -> FlicReelAnswer {
+    let (bytes, shown, next) = (&mut call.bytes, &mut call.shown, &mut call.next);
+    // SAFETY: each pointer goes with its own slice's length, and the slices don't overlap.
+    unsafe {
+        flic_add_frame(
+            call.reel,
+            bytes.pointer(),
+            bytes.length(),
+            shown.picture.pointer(),
+            shown.picture.length(),
+            shown.palette.pointer(),
+            shown.palette.length(),
+            next.picture.pointer(),
+            next.picture.length(),
+            next.palette.pointer(),
+            next.palette.length(),
+        )
+    }
+}
+
+/// Closes a reel.
+pub fn closes(call: &mut CloseCall) -> FlicReelAnswer {
+    let (bytes, first, second) = (&mut call.bytes, &mut call.first, &mut call.second);
+    // SAFETY: each pointer goes with its own slice's length, and the slices don't overlap.
+    unsafe {
+        flic_close_reel(
+            call.reel,
+            bytes.pointer(),
+            bytes.length(),
+            first.picture.pointer(),
+            first.picture.length(),
+            first.palette.pointer(),
+            first.palette.length(),
+            second.picture.pointer(),
+            second.picture.length(),
+            second.palette.pointer(),
+            second.palette.length(),
         )
     }
 }

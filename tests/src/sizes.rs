@@ -39,6 +39,14 @@ pub fn wrong_size(rng: &mut Rng) -> (u64, u64) {
     }
 }
 
+/// A size out of range, or this one.
+pub fn wrong_or_right(rng: &mut Rng, width: usize, height: usize) -> (u64, u64) {
+    match rng.below(2) {
+        0 => wrong_size(rng),
+        _ => (width as u64, height as u64),
+    }
+}
+
 /// How long the lent picture and palette are.
 #[derive(Clone, Copy, Debug, PartialEq, Eq)]
 pub struct Lengths {
@@ -51,7 +59,20 @@ pub fn lengths(rng: &mut Rng, pixels: usize) -> Lengths {
     match rng.below(40) {
         0 => short_lengths(rng, pixels),
         1..=14 => long_lengths(rng, pixels),
-        _ => Lengths { picture: pixels, palette: PALETTE_BYTES },
+        _ => exact(pixels),
+    }
+}
+
+/// Lengths without excess.
+pub fn exact(pixels: usize) -> Lengths {
+    Lengths { picture: pixels, palette: PALETTE_BYTES }
+}
+
+pub fn long_or_exact(rng: &mut Rng, pixels: usize) -> Lengths {
+    if rng.once_in(3) {
+        long_lengths(rng, pixels)
+    } else {
+        exact(pixels)
     }
 }
 

@@ -1,8 +1,9 @@
 //! Pictures and palettes, and what may come after them: the inputs of the writing tests.
 
-use crate::model::encode::Shown;
+use crate::model::encode::{Shown, Work};
 use crate::model::rng::Rng;
 use crate::model::PALETTE_BYTES;
+use crate::sizes::Lengths;
 
 /// A picture and its palette, as long as they are lent.
 #[derive(Clone, Debug, PartialEq, Eq)]
@@ -12,9 +13,47 @@ pub struct State {
 }
 
 impl State {
+    pub fn blank(pixels: usize) -> State {
+        State { picture: vec![0; pixels], palette: vec![0; PALETTE_BYTES] }
+    }
+
     pub fn shown(&self) -> Shown<'_> {
         Shown { picture: &self.picture, palette: &self.palette }
     }
+
+    pub fn work(&mut self) -> Work<'_> {
+        Work { picture: &mut self.picture, palette: &mut self.palette }
+    }
+}
+
+/// A state of one of several makes.
+pub fn state(rng: &mut Rng, width: usize, height: usize) -> State {
+    State { picture: picture(rng, width, height), palette: palette(rng) }
+}
+
+/// A state that may follow `previous`.
+pub fn next_state(rng: &mut Rng, previous: &State, width: usize, height: usize) -> State {
+    State {
+        picture: next_picture(rng, &previous.picture, width, height),
+        palette: next_palette(rng, &previous.palette),
+    }
+}
+
+/// Chance in slices of these lengths.
+pub fn any_state(rng: &mut Rng, lengths: Lengths) -> State {
+    State { picture: rng.bytes(lengths.picture), palette: rng.bytes(lengths.palette) }
+}
+
+/// The state as a lent pair of these lengths: cut, or followed by excess bytes.
+pub fn lend(rng: &mut Rng, state: &State, lengths: Lengths) -> State {
+    State { picture: fit(rng, &state.picture, lengths.picture), palette: fit(rng, &state.palette, lengths.palette) }
+}
+
+fn fit(rng: &mut Rng, bytes: &[u8], length: usize) -> Vec<u8> {
+    let mut fitted = rng.bytes(length);
+    let shared = length.min(bytes.len());
+    fitted[..shared].copy_from_slice(&bytes[..shared]);
+    fitted
 }
 
 /// Lengths of runs around the limits that packets have.

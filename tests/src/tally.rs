@@ -8,6 +8,7 @@ const PROGRESS: u64 = 20_000;
 
 pub struct Tally {
     name: &'static str,
+    unit: &'static str,
     verb: &'static str,
     calls: u64,
     numbers: BTreeMap<u32, u64>,
@@ -15,9 +16,9 @@ pub struct Tally {
 }
 
 impl Tally {
-    /// `verb` says what happened to the frames whose kinds are counted.
-    pub fn new(name: &'static str, verb: &'static str) -> Tally {
-        Tally { name, verb, calls: 0, numbers: BTreeMap::new(), kinds: BTreeMap::new() }
+    /// `unit` says what is counted, `verb` what happened to the frames whose kinds are counted.
+    pub fn new(name: &'static str, unit: &'static str, verb: &'static str) -> Tally {
+        Tally { name, unit, verb, calls: 0, numbers: BTreeMap::new(), kinds: BTreeMap::new() }
     }
 
     pub fn calls(&self) -> u64 {
@@ -29,7 +30,7 @@ impl Tally {
         self.calls += 1;
         *self.numbers.entry(number).or_default() += 1;
         if self.calls.is_multiple_of(PROGRESS) {
-            println!("{}: {} frames so far", self.name, self.calls);
+            println!("{}: {} {} so far", self.name, self.calls, self.unit);
         }
     }
 
@@ -42,7 +43,7 @@ impl Tally {
     }
 
     pub fn print(&self) {
-        println!("{}: {} frames", self.name, self.calls);
+        println!("{}: {} {}", self.name, self.calls, self.unit);
         for (number, times) in &self.numbers {
             match number {
                 0 => println!("  done       {times}"),

@@ -6,8 +6,10 @@ use crate::model::decode::read_frame;
 use crate::model::encode::write_frame;
 use crate::model::rng::Rng;
 use crate::model::PALETTE_BYTES;
-use crate::sizes::{lengths, long_lengths, right_size, short_lengths, small_size, wrong_size, Lengths};
-use crate::states::{next_palette, next_picture, palette, picture, State};
+use crate::sizes::{
+    exact, lengths, long_lengths, long_or_exact, right_size, short_lengths, small_size, wrong_or_right, Lengths,
+};
+use crate::states::{any_state, lend, next_palette, next_state, palette, picture, state, State};
 
 /// What one call of the writer is handed.
 #[derive(Clone)]
@@ -56,7 +58,7 @@ pub const SINGLE_REWRITES: usize = 3;
 const COLOUR_CHUNK_MOST: usize = 6 + 2 + 128 * 2 + 768;
 
 /// Room for any house frame of this size.
-fn ample_room(pixels: usize) -> usize {
+pub fn ample_room(pixels: usize) -> usize {
     16 + COLOUR_CHUNK_MOST + 6 + pixels
 }
 
@@ -75,41 +77,6 @@ fn some_room(rng: &mut Rng, ample: usize, needed: impl Fn() -> usize) -> usize {
         2 => needed() - 1,
         3 => rng.below(needed()),
         _ => ample + rng.below(9),
-    }
-}
-
-fn exact(pixels: usize) -> Lengths {
-    Lengths { picture: pixels, palette: PALETTE_BYTES }
-}
-
-/// The state as a lent pair of these lengths: cut, or followed by excess bytes.
-fn lend(rng: &mut Rng, state: &State, lengths: Lengths) -> State {
-    State { picture: fit(rng, &state.picture, lengths.picture), palette: fit(rng, &state.palette, lengths.palette) }
-}
-
-fn fit(rng: &mut Rng, bytes: &[u8], length: usize) -> Vec<u8> {
-    let mut fitted = rng.bytes(length);
-    let shared = length.min(bytes.len());
-    fitted[..shared].copy_from_slice(&bytes[..shared]);
-    fitted
-}
-
-fn state(rng: &mut Rng, width: usize, height: usize) -> State {
-    State { picture: picture(rng, width, height), palette: palette(rng) }
-}
-
-fn next_state(rng: &mut Rng, previous: &State, width: usize, height: usize) -> State {
-    State {
-        picture: next_picture(rng, &previous.picture, width, height),
-        palette: next_palette(rng, &previous.palette),
-    }
-}
-
-fn long_or_exact(rng: &mut Rng, pixels: usize) -> Lengths {
-    if rng.once_in(3) {
-        long_lengths(rng, pixels)
-    } else {
-        exact(pixels)
     }
 }
 
@@ -171,17 +138,6 @@ fn write_lent(rng: &mut Rng, sink: &mut dyn FnMut(WriteCase)) {
         next: any_state(rng, both[1]),
         out: rng.bytes(room),
     });
-}
-
-fn wrong_or_right(rng: &mut Rng, width: usize, height: usize) -> (u64, u64) {
-    match rng.below(2) {
-        0 => wrong_size(rng),
-        _ => (width as u64, height as u64),
-    }
-}
-
-fn any_state(rng: &mut Rng, lengths: Lengths) -> State {
-    State { picture: rng.bytes(lengths.picture), palette: rng.bytes(lengths.palette) }
 }
 
 /// Every length of output from none to two more than needed.

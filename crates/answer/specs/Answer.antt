@@ -66,6 +66,9 @@ pub record State : Type 0 where
   pub picture : List ℕ
   pub palette : List ℕ
 
+abbrev pub state : List ℕ → List ℕ → State
+state p q = record { picture = p; palette = q }
+
 -- document 01's "Blank: all pixels and palette bytes 0", of a picture of n pixels
 unfoldable pub blank : ℕ → State
-blank n = record { picture = replicate n 0; palette = replicate 768 0 }
+blank n = state (replicate n 0) (replicate 768 0)

@@ -2,10 +2,18 @@
 use Prim.Native.Nat.{ℕ}
 use mathlib.Core.Path.{_≡_}
 use mathlib.Core.List.{List, [], _∷_}
+use mathlib.Core.Bool.{not}
+use lib.Dec.{eqb}
+use lib.ListN.{getD}
 use Rattle.answer.specs.Answer.{Said, done, refused}
 use Rattle.frame.specs.Reading.{Outcome}
 use Rattle.house.specs.Writing.{Output}
 use Rattle.rewrite.specs.Rewriting.{Rewritten}
+use Rattle.reel.specs.Check.{Checked}
+use Rattle.build.specs.declared.Reel.{Reel}
+use Rattle.build.specs.Record.{reel}
+use Rattle.close.specs.Closing.{Closed}
+use Rattle.capi.specs.declared.Record.{Record}
 
 -- the refusal's number, 0 for done
 abbrev pub numberOf : Said → ℕ
@@ -47,3 +55,40 @@ pub record Rewrote (number place length : ℕ) (p q out : List ℕ) (o : Rewritt
   pub picture-is : p ≡ o .picture
   pub palette-is : q ≡ o .palette
   pub bytes-are : out ≡ o .bytes
+
+-- the reel that C's record stands for: closed is any number but 0
+abbrev pub reelOf : Record → Reel
+reelOf r = reel (r .width) (r .height) (r .frames) (r .end) (not (eqb (r .closed) 0))
+
+-- the record after a call: its values where done, else the one handed in
+abbrev pub recordOf : Said → Record → Record
+recordOf (done v) r = record { width = getD v 0 0; height = getD v 1 0; frames = getD v 2 0; end = getD v 3 0; closed = getD v 4 0 }
+recordOf (refused n place) r = r
+
+-- no reel: what a refused open gives
+abbrev pub nothing : Record
+nothing = record { width = 0; height = 0; frames = 0; end = 0; closed = 0 }
+
+-- a check of a whole reel
+pub record CheckedReel (number place : ℕ) (p q p′ q′ : List ℕ) (o : Checked) : Type 0 where
+  pub told : Told number place (o .said)
+  pub picture1-is : p ≡ o .picture1
+  pub palette1-is : q ≡ o .palette1
+  pub picture2-is : p′ ≡ o .picture2
+  pub palette2-is : q′ ≡ o .palette2
+
+-- an open or an add
+pub record BuiltReel (number place : ℕ) (after : Record) (b : List ℕ) (before : Record) (o : Output) : Type 0 where
+  pub told : Told number place (o .said)
+  pub record-is : after ≡ recordOf (o .said) before
+  pub bytes-are : b ≡ o .bytes
+
+-- a close
+pub record ClosedReel (number place : ℕ) (after : Record) (b p q p′ q′ : List ℕ) (before : Record) (o : Closed) : Type 0 where
+  pub told : Told number place (o .said)
+  pub record-is : after ≡ recordOf (o .said) before
+  pub bytes-are : b ≡ o .bytes
+  pub picture1-is : p ≡ o .picture1
+  pub palette1-is : q ≡ o .palette1
+  pub picture2-is : p′ ≡ o .picture2
+  pub palette2-is : q′ ≡ o .palette2

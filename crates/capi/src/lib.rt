@@ -4,13 +4,37 @@ ghost use Rattle.answer.specs.Answer.{told, toldWritten};
 ghost use Rattle.frame.specs.Reading.{readFrame};
 ghost use Rattle.house.specs.Writing.{writeFrame};
 ghost use Rattle.rewrite.specs.Rewriting.{rewriteFrame};
-ghost use Rattle.capi.specs.Capi.{lengthOf, Told, Read, Wrote, Rewrote};
+ghost use Rattle.reel.specs.Check.{checkReel};
+ghost use Rattle.build.specs.Record.{toldBuilt};
+ghost use Rattle.build.specs.Building.{openReel, addFrame};
+ghost use Rattle.close.specs.Closing.{closeReel};
+ghost use Rattle.capi.specs.Capi.{lengthOf, nothing, reelOf, recordOf, Told, Read, Wrote, Rewrote, CheckedReel, BuiltReel, ClosedReel};
+use build::Built;
+use build::Reel;
 
 // Number 0: done. Otherwise the refusal's number and place.
 #[repr(C)]
 pub struct Answered {
     pub number: u32,
     pub place: u64,
+}
+
+// A reel from call to call. Closed: any number but 0.
+#[repr(C)]
+pub struct Record {
+    pub width: u64,
+    pub height: u64,
+    pub frames: u64,
+    pub end: u64,
+    pub closed: u32,
+}
+
+// An answer with the reel as it is after the call: where refused, as it was handed in.
+#[repr(C)]
+pub struct Recorded {
+    pub number: u32,
+    pub place: u64,
+    pub reel: Record,
 }
 
 // The same with how many bytes were written, 0 where refused.
@@ -121,4 +145,138 @@ pub extern "C" fn flic_rewrite_frame(
         out,
     );
     written_for_c(a)
+}
+
+fn reel_from_c(r: Record) -> Reel
+    ensures { λ x. ⌜ x ≡ reelOf r ⌝ }
+{
+    Reel {
+        width: r.width as usize,
+        height: r.height as usize,
+        frames: r.frames as usize,
+        end: r.end as usize,
+        closed: r.closed != 0,
+    }
+}
+
+fn built_for_c(a: Built, handed: Record) -> Recorded
+    ensures { λ r. ⌜ Told (r .number) (r .place) (toldBuilt a) × (r .reel ≡ recordOf (toldBuilt a) handed) ⌝ }
+{
+    match a {
+        Built::Refused(e, place) => Recorded {
+            number: answer::number_of(e),
+            place: place as u64,
+            reel: handed,
+        },
+        Built::Done(reel) => {
+            let mut closed = 0;
+            if reel.closed {
+                closed = 1;
+            }
+            Recorded {
+                number: 0,
+                place: 0,
+                reel: Record {
+                    width: reel.width as u64,
+                    height: reel.height as u64,
+                    frames: reel.frames as u64,
+                    end: reel.end as u64,
+                    closed,
+                },
+            }
+        }
+    }
+}
+
+// Checks a whole reel.
+#[no_mangle]
+pub extern "C" fn flic_check_reel(
+    bytes: &[u8],
+    first_picture: &mut [u8],
+    first_palette: &mut [u8],
+    second_picture: &mut [u8],
+    second_palette: &mut [u8],
+) -> Answered
+    ensures { λ r. ⌜ CheckedReel (r .number) (r .place) (now («first_picture» .exit)) (now («first_palette» .exit)) (now («second_picture» .exit)) (now («second_palette» .exit))
+        (checkReel (now (bytes .entry)) (now («first_picture» .entry)) (now («first_palette» .entry)) (now («second_picture» .entry)) (now («second_palette» .entry))) ⌝ }
+{
+    let a = reel::check_reel(
+        bytes,
+        first_picture,
+        first_palette,
+        second_picture,
+        second_palette,
+    );
+    answer_for_c(a)
+}
+
+// Opens a reel at the front of the lent bytes.
+#[no_mangle]
+pub extern "C" fn flic_open_reel(
+    width: usize,
+    height: usize,
+    speed: u32,
+    bytes: &mut [u8],
+) -> Recorded
+    ensures { λ r. ⌜ BuiltReel (r .number) (r .place) (r .reel) (now (bytes .exit)) nothing (openReel width height speed (now (bytes .entry))) ⌝ }
+{
+    let a = build::open_reel(width, height, speed, bytes);
+    built_for_c(
+        a,
+        Record {
+            width: 0,
+            height: 0,
+            frames: 0,
+            end: 0,
+            closed: 0,
+        },
+    )
+}
+
+// Adds the frame that leads from the showing picture and palette to the next.
+#[no_mangle]
+pub extern "C" fn flic_add_frame(
+    reel: Record,
+    bytes: &mut [u8],
+    shown_picture: &[u8],
+    shown_palette: &[u8],
+    next_picture: &[u8],
+    next_palette: &[u8],
+) -> Recorded
+    ensures { λ r. ⌜ BuiltReel (r .number) (r .place) (r .reel) (now (bytes .exit)) reel
+        (addFrame (reelOf reel) (now (bytes .entry)) (now («shown_picture» .entry)) (now («shown_palette» .entry)) (now («next_picture» .entry)) (now («next_palette» .entry))) ⌝ }
+{
+    let a = build::add_frame(
+        reel_from_c(reel),
+        bytes,
+        shown_picture,
+        shown_palette,
+        next_picture,
+        next_palette,
+    );
+    built_for_c(a, reel)
+}
+
+// Closes a reel.
+#[no_mangle]
+pub extern "C" fn flic_close_reel(
+    reel: Record,
+    bytes: &mut [u8],
+    first_picture: &mut [u8],
+    first_palette: &mut [u8],
+    second_picture: &mut [u8],
+    second_palette: &mut [u8],
+) -> Recorded
+    ensures { λ r. ⌜ ClosedReel (r .number) (r .place) (r .reel) (now (bytes .exit)) (now («first_picture» .exit)) (now («first_palette» .exit)) (now («second_picture» .exit)) (now («second_palette» .exit)) reel
+        (closeReel (reelOf reel) (now (bytes .entry)) (now («first_picture» .entry)) (now («first_palette» .entry)) (now («second_picture» .entry)) (now («second_palette» .entry))) ⌝ }
+{
+    let a = close::close_reel(
+        reel_from_c(reel),
+        bytes,
+        first_picture,
+        first_palette,
+        second_picture,
+        second_palette,
+    );
+    built_for_c(a, reel)
 }

@@ -6,7 +6,7 @@ use Prim.Native.Nat.{ℕ, suc, zero, _≤_, _<_, _+_, _-_, _*_}
 use native.Mathlib.Nat.{not-suc-le-zero}
 use native.Mathlib.Numerals.{sub-one}
 use native.Mathlib.Omega.{arith}
-use borrow.Author.Tests.{le-leb, lt-leb, eq-eqb, ne-eqb, leb-true}
+use borrow.Author.Tests.{le-leb, lt-leb, eq-eqb, ne-eqb, leb-true, eqb-true}
 use lib.ListN.{length}
 use lib.Dec.{leb, eqb}
 use Rattle.words.specs.Words.{pick, u16At, u32At, part}
@@ -151,23 +151,23 @@ module _ (b : List ℕ) where
       ap₂ (λ (x y : ℕ). whole.Frame x y) e f
       ∙ simp (le-leb 16 (length b) k, eq-eqb (u16At b 4) FRAME-TYPE t, le-leb 16 (u32At b 0) l, le-leb (u32At b 0) (length b) m)
 
-  -- a frame lies within b
+  -- a frame lies within b, and its type is F1FA
   abbrev pub FrameIn : FrameHeader → Type 0
   FrameIn (whole.Fault e) = Unit {0}
-  FrameIn (whole.Frame count size) = (16 ≤ size) × (size ≤ length b)
+  FrameIn (whole.Frame count size) = (16 ≤ size) × (size ≤ length b) × (u16At b 4 ≡ FRAME-TYPE)
 
   pub frame-in : (f : FrameHeader) → frameHeader b ≡ f → FrameIn f
   unfolding frameHeader
   frame-in f e =
-      subst FrameIn e (go (leb 16 (length b)) (eqb (u16At b 4) FRAME-TYPE) (leb 16 (u32At b 0)) (leb (u32At b 0) (length b)) refl refl)
+      subst FrameIn e (go (leb 16 (length b)) (eqb (u16At b 4) FRAME-TYPE) (leb 16 (u32At b 0)) (leb (u32At b 0) (length b)) refl refl refl)
     where
-      go : (a t s l : Bool) → leb 16 (u32At b 0) ≡ s → leb (u32At b 0) (length b) ≡ l
+      go : (a t s l : Bool) → eqb (u16At b 4) FRAME-TYPE ≡ t → leb 16 (u32At b 0) ≡ s → leb (u32At b 0) (length b) ≡ l
           → FrameIn (pick a (pick t (pick s (pick l (whole.Frame (u16At b 6) (u32At b 0)) (whole.Fault Cut)) (whole.Fault SmallSize)) (whole.Fault WrongType)) (whole.Fault Cut))
-      go false t s l p q = tt
-      go true false s l p q = tt
-      go true true false l p q = tt
-      go true true true false p q = tt
-      go true true true true p q = (leb-true 16 (u32At b 0) p, leb-true (u32At b 0) (length b) q)
+      go false t s l o p q = tt
+      go true false s l o p q = tt
+      go true true false l o p q = tt
+      go true true true false o p q = tt
+      go true true true true o p q = (leb-true 16 (u32At b 0) p, leb-true (u32At b 0) (length b) q, eqb-true (u16At b 4) FRAME-TYPE o)
 
 pub frame-as : (w h : ℕ) (b : List ℕ) (f : FrameHeader) → frameHeader b ≡ f → frame w h b ≡ afterFrameHeader w h b f
 unfolding frame

@@ -17,6 +17,7 @@ use Rattle.words.specs.Writes.{Write, written}
 use Rattle.words.proofs.Laws.{Inside, inside-append, length-written}
 use Rattle.answer.specs.Format.{FLI-COLOR256, FLI-SS2, FLI-COLOR, FLI-LC, FLI-BLACK, FLI-BRUN, FLI-COPY}
 use Rattle.answer.specs.Answer.{Said, done, refused, sizeOk}
+use Rattle.answer.specs.declared.Refusal.{Refusal}
 use Rattle.answer.specs.declared.Refusal.the-variants.{ShortSlice, BadSize}
 use Rattle.answer.specs.declared.Verdict.{Verdict}
 use Rattle.answer.specs.declared.Verdict.the-variants as verdict
@@ -191,6 +192,9 @@ frame-place w h b = go (frameHeader b) (frame-in b _ refl)
     go (whole.Fault e) i = omega arith
     go (whole.Frame count size) i =
         place-front b size (subChunks w h (take size b) count 16 .answer) (chunks-place w h (take size b) count 16 (omega (arith, length-take-le size b (i .1), i .0)))
+
+pub refused-within : (w h : ℕ) (b : List ℕ) (e : Refusal) (place : ℕ) → frame w h b .answer ≡ Refused e place → place ≤ length b
+refused-within w h b e place a = subst (PlaceIn b) a (frame-place w h b)
 
 -- a refusal's place is not past b
 abbrev SaidIn : List ℕ → Said → Type 0

@@ -12,7 +12,7 @@ use lib.Seq.{length-take-le}
 use Rattle.words.specs.Words.{pick, chunk, same}
 use Rattle.words.specs.Writes.{put}
 use Rattle.words.proofs.Laws.{put-then, length-chunk}
-use Rattle.answer.specs.Answer.{maxWidth, maxHeight, sizeOk}
+use Rattle.answer.specs.Answer.{maxWidth, maxHeight, sizeOk, state}
 use Rattle.answer.specs.Format.{FLI-COLOR256, FLI-SS2, FLI-COPY}
 use Rattle.answer.proofs.Laws.{size-in}
 use Rattle.answer.specs.declared.Refusal.the-variants.{ShortSlice, BadSize, NoRoom}
@@ -27,7 +27,7 @@ use Rattle.fulls.proofs.Laws.{kind-copy}
 use Rattle.fulls.proofs.FullLeast.{full-shortest}
 use Rattle.house.specs.House.{colourChunk, deltaChunk, pictureChunk, changed, houseChunks, framed, houseFrame}
 use Rattle.house.specs.Plans.{Palettes, Pictures, nothing, planned, colourPlan, picturePlan, ColourPlan, PicturePlan, headerBytes}
-use Rattle.house.specs.Writing.{Output, output, fitted, state, writeFrame}
+use Rattle.house.specs.Writing.{Output, output, fitted, writeFrame}
 use Rattle.house.specs.declared.Plan.{Plan}
 
 -- bytes stored, and the sub-chunks that they are

@@ -25,10 +25,6 @@ output a out = record { said = toldWritten a; bytes = out }
 abbrev pub fitted : List ℕ → List ℕ → Output
 fitted b out = pick (leb (length b) (length out)) (output (Done (length b)) (put out 0 b)) (output (Refused NoRoom 0) out)
 
--- a state of a picture and a palette
-abbrev pub state : List ℕ → List ℕ → State
-state p pp = record { picture = p; palette = pp }
-
 -- "Writing: .. 2, 1, 3"; p, pp: the previous picture and palette, q, qq: the next
 unfoldable pub writeFrame : ℕ → ℕ → List ℕ → List ℕ → List ℕ → List ℕ → List ℕ → Output
 unfolding houseFrame

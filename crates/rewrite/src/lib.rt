@@ -2,11 +2,11 @@
 ghost use mathlib.Core.Path.{_≡_};
 ghost use Prim.Native.Nat.{_*_, _≤_};
 ghost use lib.ListN.{length};
-ghost use Rattle.answer.specs.Answer.{maxWidth, maxHeight};
+ghost use Rattle.answer.specs.Answer.{maxWidth, maxHeight, state};
 ghost use Rattle.frame.specs.Frame.{frame};
 ghost use Rattle.frame.specs.Reading.{played};
 ghost use Rattle.house.specs.House.{houseFrame};
-ghost use Rattle.house.specs.Writing.{output, fitted, state};
+ghost use Rattle.house.specs.Writing.{output, fitted};
 ghost use Rattle.rewrite.specs.Rewriting.{rewritten, rewriteFrame};
 use answer::PALETTE_BYTES;
 use answer::Refusal;

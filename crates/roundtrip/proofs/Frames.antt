@@ -1,7 +1,7 @@
 -- A frame of sub-chunks plays as they do, one after the other: `framed-plays`.
 -- The idea: the header of each sub-chunk is found where the one before ends, its body is the part that was written, and the walk goes on from there.
 use mathlib.Core.Path.{_≡_, refl, sym, ap, _∙_, subst}
-use mathlib.Core.List.{List, [], _∷_, _++_, flatten}
+use mathlib.Core.List.{List, [], _∷_, _++_, flatten, append-nil}
 use Prim.Native.Nat.{ℕ, suc, _+_, _-_, _/_, _%_, _<_}
 use native.Mathlib.Omega.{arith}
 use lib.ListN.{length, take, drop, length-append}
@@ -99,20 +99,30 @@ unfolding framed
 length-framed subs = omega arith
 
 module _ (subs : List (List ℕ)) (small : 16 + length (flatten subs) < 4294967296) where
+  -- whatever follows the frame
+  module _ (more : List ℕ) where
+    abbrev reserved : List ℕ
+    reserved = 0 ∷ 0 ∷ 0 ∷ 0 ∷ 0 ∷ 0 ∷ 0 ∷ 0 ∷ (flatten subs ++ more)
+
+    pub field-before : u32At (framed subs ++ more) 0 ≡ length (framed subs)
+    unfolding framed
+    field-before =
+        there-le32 (framed subs ++ more) (le16 FRAME-TYPE (le16 (length subs) reserved)) 0 (16 + length (flatten subs)) small refl ∙ sym (length-framed subs)
+
+    pub header-before : frameHeader (framed subs ++ more) ≡ Frame (length subs) (length (framed subs))
+    unfolding framed
+    header-before =
+        let b = framed subs ++ more in
+        let n = length-framed subs in
+        let l = length-append (framed subs) more in
+        sym (frame-whole b (length subs) (length (framed subs)) (sym (there-le16 b reserved 6 (length subs) refl)) (sym field-before) (omega arith)
+        (there-le16 b (le16 (length subs) reserved) 4 FRAME-TYPE refl) (omega (arith, field-before)) (omega (arith, field-before)))
+
   pub framed-field : u32At (framed subs) 0 ≡ length (framed subs)
-  unfolding framed
-  framed-field =
-      let b = framed subs in
-      there-le32 b (le16 FRAME-TYPE (le16 (length subs) (0 ∷ 0 ∷ 0 ∷ 0 ∷ 0 ∷ 0 ∷ 0 ∷ 0 ∷ flatten subs))) 0 (16 + length (flatten subs)) small refl ∙ sym (length-framed subs)
+  framed-field = ap (λ (x : List ℕ). u32At x 0) (sym (append-nil (framed subs))) ∙ field-before []
 
   pub framed-header : frameHeader (framed subs) ≡ Frame (length subs) (length (framed subs))
-  unfolding framed
-  framed-header =
-      let after : List ℕ = 0 ∷ 0 ∷ 0 ∷ 0 ∷ 0 ∷ 0 ∷ 0 ∷ 0 ∷ flatten subs in
-      let b = framed subs in
-      let n = length-framed subs in
-      sym (frame-whole b (length subs) (length b) (sym (there-le16 b after 6 (length subs) refl)) (sym framed-field) (omega arith)
-      (there-le16 b (le16 (length subs) after) 4 FRAME-TYPE refl) (omega (arith, framed-field)) (omega (arith, framed-field)))
+  framed-header = ap frameHeader (sym (append-nil (framed subs))) ∙ header-before []
 
   pub framed-subs : drop 16 (framed subs) ≡ flatten subs
   unfolding framed

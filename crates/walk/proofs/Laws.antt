@@ -9,6 +9,7 @@ use lib.ListN.{length, take, drop, length-drop}
 use lib.Seq.{take-all}
 use lib.Dec.{leb, eqb}
 use Rattle.words.specs.Words.{pick, u16At, u32At}
+use Rattle.words.proofs.There.{drop-word}
 use Rattle.answer.specs.Answer.{sizeOk, maxFrames}
 use Rattle.answer.specs.Format.{FLC-MAGIC, FRAME-TYPE}
 use Rattle.answer.specs.declared.Refusal.the-variants.{Cut, WrongType, SmallSize, BadSize, BadHeader, FewFrames}
@@ -123,6 +124,10 @@ unfolding packedAt
 packed-as b at n e f h =
     ap (λ (x : List ℕ). framed at (frameHeader x)) (sym (take-all n (drop at b) (omega (arith, length-drop at b)))) ∙ ap (framed at) h
 
+header-there : (b : List ℕ) (at count size : ℕ) → frameHeader (drop at b) ≡ whole.Frame count size → packedAt b at ≡ Frame at (at + size)
+unfolding packedAt
+header-there b at count size e = ap (framed at) e
+
 -- the next frame
 
 -- a frame lies behind at and within b
@@ -205,3 +210,11 @@ pub step-in : (packed : Bool) (b : List ℕ) (at : ℕ) → at ≤ length b → 
 unfolding nextAt
 step-in true b at h x e = subst (NextIn b at) e (packed-in b at h)
 step-in false b at h x e = subst (NextIn b at) e (within-in (length b) b at h)
+
+-- a frame that begins at an offset is the next one from there, whatever the layout
+pub step-there : (packed : Bool) (b : List ℕ) (at count size : ℕ) → at ≤ length b → frameHeader (drop at b) ≡ whole.Frame count size
+    → stepAt packed b at ≡ Frame at (at + size)
+step-there true b at count size h e = header-there b at count size e
+step-there false b at count size h e =
+    let i = frame-in (drop at b) _ e in
+    next-frame b at (omega (arith, i .0, i .1, length-drop at b)) (sym (drop-word b at 4) ∙ i .2) ∙ header-there b at count size e

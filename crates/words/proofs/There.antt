@@ -22,6 +22,19 @@ there-byte b z at n x e f = sym (getD-drop at b n 0) ∙ ap (λ (q : List ℕ). 
 pub there-long : (b z : List ℕ) (at n : ℕ) → drop at b ≡ z → 1 ≤ n → n ≤ length z → at + n ≤ length b
 there-long b z at n e s h = omega (arith, length-drop at b, ap length e)
 
+-- a word behind the front
+pub drop-word : (b : List ℕ) (at i : ℕ) → u16At (drop at b) i ≡ u16At b (at + i)
+unfolding u16At
+drop-word b at i =
+    let k : at + (i + 1) ≡ at + i + 1 = omega arith in
+    ap₂ (λ (x y : ℕ). x + 256 * y) (getD-drop at b i 0) (getD-drop at b (i + 1) 0 ∙ ap (λ (j : ℕ). getD b j 0) k)
+
+pub drop-word32 : (b : List ℕ) (at i : ℕ) → u32At (drop at b) i ≡ u32At b (at + i)
+unfolding u32At
+drop-word32 b at i =
+    let k : at + (i + 2) ≡ at + i + 2 = omega arith in
+    ap₂ (λ (x y : ℕ). x + 65536 * y) (drop-word b at i) (drop-word b at (i + 2) ∙ ap (u16At b) k)
+
 -- the word whose two bytes stand there
 pub there-word : (b more : List ℕ) (at lo hi x : ℕ) → drop at b ≡ lo ∷ hi ∷ more → lo + 256 * hi ≡ x → u16At b at ≡ x
 unfolding u16At
@@ -44,8 +57,11 @@ there-le32 b more at x h e =
     (there-word b more (at + 2) (x / 256 / 256 % 256) (x / 256 / 256 / 256 % 256) _ (there-drop b low high at 2 e refl) refl)
     ∙ word x h
 
--- bytes stored in the place of as many
+-- bytes stored behind a front
+pub put-behind : (a z v : List ℕ) (at : ℕ) → length a ≡ at → put (a ++ z) at v ≡ a ++ (v ++ drop (length v) z)
+put-behind a z v at l =
+    ap₂ (λ (x y : List ℕ). x ++ (v ++ y)) (take-at a z at l) (sym (drop-drop (length v) at (a ++ z)) ∙ ap (λ (x : List ℕ). drop (length v) x) (drop-at a z at l))
+
+-- in the place of as many
 pub put-at : (a o v z : List ℕ) (at : ℕ) → length a ≡ at → length o ≡ length v → put (a ++ (o ++ z)) at v ≡ a ++ (v ++ z)
-put-at a o v z at la lo =
-    ap₂ (λ (x y : List ℕ). x ++ (v ++ y)) (take-at a (o ++ z) at la)
-    (sym (drop-drop (length v) at (a ++ (o ++ z))) ∙ ap (λ (l : List ℕ). drop (length v) l) (drop-at a (o ++ z) at la) ∙ drop-at o z (length v) lo)
+put-at a o v z at la lo = put-behind a (o ++ z) v at la ∙ ap (λ (x : List ℕ). a ++ (v ++ x)) (drop-at o z (length v) lo)

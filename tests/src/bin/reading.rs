@@ -32,7 +32,7 @@ fn whole_run(base: u64) {
     println!("reading: base seed {base}; a batch's seed follows from it, the family and the batch's number");
     self_check(base);
     named_examples(base);
-    let mut tally = Tally::new("reading", "accepted");
+    let mut tally = Tally::new("reading", "frames", "accepted");
     for family in &FAMILIES {
         println!("reading: family {}, {} batches", family.name, family.batches);
         for batch in 0..family.batches {
@@ -45,7 +45,7 @@ fn whole_run(base: u64) {
 }
 
 fn one_batch(name: &str, seed: u64) {
-    let mut tally = Tally::new("reading", "accepted");
+    let mut tally = Tally::new("reading", "frames", "accepted");
     for family in FAMILIES.iter().filter(|family| family.name == name) {
         run_batch(family, seed, &mut tally);
     }

@@ -31,7 +31,10 @@ struct Tallies {
 
 impl Tallies {
     fn new() -> Tallies {
-        Tallies { writing: Tally::new("writing", "written"), rewriting: Tally::new("rewriting", "rewritten") }
+        Tallies {
+            writing: Tally::new("writing", "frames", "written"),
+            rewriting: Tally::new("rewriting", "frames", "rewritten"),
+        }
     }
 
     fn compared(&self) -> u64 {

@@ -133,11 +133,13 @@ pub fn kinds_of_accepted(bytes: &[u8]) -> Vec<u16> {
     kinds
 }
 
-fn word_at(bytes: &[u8], offset: usize) -> u16 {
+/// The little-endian word at an offset that must be there.
+pub fn word_at(bytes: &[u8], offset: usize) -> u16 {
     u16::from_le_bytes([bytes[offset], bytes[offset + 1]])
 }
 
-fn size_at(bytes: &[u8], offset: usize) -> usize {
+/// The little-endian double word at an offset that must be there.
+pub fn size_at(bytes: &[u8], offset: usize) -> usize {
     let low = word_at(bytes, offset) as usize;
     let high = word_at(bytes, offset + 2) as usize;
     high << 16 | low

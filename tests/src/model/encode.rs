@@ -78,6 +78,11 @@ pub struct Work<'a> {
     pub palette: &'a mut [u8],
 }
 
+/// The house frame that leads from `previous` to `next`, of which no slice is too short.
+pub fn house_frame(width: usize, height: usize, previous: Shown, next: Shown) -> Vec<u8> {
+    House { mistake: Mistake::None, width, height }.frame(previous, next)
+}
+
 /// Writes the house frame that leads from `previous` to `next`, and gives its length.
 pub fn write_frame(width: u64, height: u64, previous: Shown, next: Shown, out: &mut [u8]) -> Result<usize, Refusal> {
     write_frame_with(Mistake::None, width, height, previous, next, out)

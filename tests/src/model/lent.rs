@@ -1,6 +1,7 @@
 //! A lent slice that stands between guard bytes, so that a write outside it is seen.
 
 use super::rng::{mix, Rng};
+use std::alloc::{alloc_zeroed, Layout};
 use std::ptr::NonNull;
 
 const LEAST_GUARD: usize = 32;
@@ -13,16 +14,41 @@ pub struct Lent {
     seed: u64,
 }
 
+/// How many guard bytes stand before the slice.
+fn front_length(seed: u64) -> usize {
+    LEAST_GUARD + (seed % 8) as usize
+}
+
+fn guarded_length(length: usize, seed: u64) -> usize {
+    front_length(seed) + length + LEAST_GUARD
+}
+
 impl Lent {
     /// Lends a copy of `content`. The seed gives the guard bytes and the alignment.
     pub fn holding(content: &[u8], seed: u64) -> Lent {
-        let front = LEAST_GUARD + (seed % 8) as usize;
-        let mut storage = vec![0; front + content.len() + LEAST_GUARD];
-        let back = front + content.len();
-        storage[front..back].copy_from_slice(content);
+        let storage = vec![0; guarded_length(content.len(), seed)];
+        let mut lent = Lent::guarding(storage, content.len(), seed);
+        lent.content_mut().copy_from_slice(content);
+        lent
+    }
+
+    /// Lends zeros that take no memory before they are written, if the system gives so many.
+    pub fn of_zeros(length: usize, seed: u64) -> Option<Lent> {
+        let whole = guarded_length(length, seed);
+        let layout = Layout::array::<u8>(whole).ok()?;
+        // SAFETY: the layout isn't empty, and a vector of bytes may own what the global allocator zeroed for it.
+        let storage = unsafe {
+            let pointer = NonNull::new(alloc_zeroed(layout))?;
+            Vec::from_raw_parts(pointer.as_ptr(), whole, whole)
+        };
+        Some(Lent::guarding(storage, length, seed))
+    }
+
+    fn guarding(mut storage: Vec<u8>, length: usize, seed: u64) -> Lent {
+        let front = front_length(seed);
         Rng::new(seed).fill(&mut storage[..front]);
-        Rng::new(mix(seed, BACK_GUARD_MARK)).fill(&mut storage[back..]);
-        Lent { storage, front, length: content.len(), seed }
+        Rng::new(mix(seed, BACK_GUARD_MARK)).fill(&mut storage[front + length..]);
+        Lent { storage, front, length, seed }
     }
 
     /// What a foreign caller would hand over; an empty slice has a pointer that must not be followed.

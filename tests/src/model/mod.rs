@@ -1,8 +1,14 @@
 //! The model: document 01 read a second time, in plain Rust, sharing nothing with the codec.
 
+pub mod build;
+pub mod check;
 pub mod decode;
 pub mod encode;
+pub mod file_header;
 pub mod lent;
+mod playing;
+pub mod reel;
+pub mod reel_mistakes;
 pub mod rng;
 
 /// The largest width and height of a picture.
@@ -28,7 +34,7 @@ pub mod kind {
     pub const PSTAMP: u16 = 18;
 }
 
-/// The refusal numbers of a single frame, by document 01's table.
+/// The refusal numbers of frames and reels, by document 01's table.
 pub mod number {
     pub const SHORT_SLICE: u32 = 1;
     pub const BAD_SIZE: u32 = 2;
@@ -43,6 +49,10 @@ pub mod number {
     pub const BAD_SS2_WORD: u32 = 11;
     pub const PAST_LAST_COLOUR: u32 = 12;
     pub const LEVEL_OVER_63: u32 = 13;
+    pub const BAD_FILE_HEADER: u32 = 14;
+    pub const FRAME_MISSING: u32 = 15;
+    pub const RING_ASTRAY: u32 = 16;
+    pub const CLOSED_OR_FULL: u32 = 18;
 }
 
 /// A refusal: its number, and the offset of the chunk at fault.

@@ -1,5 +1,6 @@
 -- `rewrite_accepted` meets its contract: the working pair becomes a copy of the previous one, is played on, and is what the house frame leads to.
-use Rattle.house.specs.Writing.{fitted, state}
+use Rattle.answer.specs.Answer.{state}
+use Rattle.house.specs.Writing.{fitted}
 use Rattle.house.specs.House.{houseFrame}
 use Rattle.frame.specs.Frame.{frame}
 use Rattle.words.specs.Writes.{written}

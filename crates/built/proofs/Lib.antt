@@ -1,0 +1,6 @@
+pub mod Joined
+pub mod Header
+pub mod Kept
+pub mod Making
+pub mod File
+pub mod Built

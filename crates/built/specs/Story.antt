@@ -1,0 +1,58 @@
+-- A reel's making as a whole, an open, adds and a close, and what the closed reel shows.
+use Prim.Native.Nat.{ℕ, suc, _*_, _≤_, _<_}
+use mathlib.Core.List.{List, [], _∷_, _++_}
+use mathlib.Core.Bool.{true}
+use mathlib.Core.Path.{_≡_}
+use mathlib.Core.Logic.{_⊎_}
+use lib.ListN.{length, take}
+use Rattle.words.specs.Words.{Bytes}
+use Rattle.answer.specs.Answer.{done, refused, State, blank}
+use Rattle.frame.specs.Reading.{front, enough}
+use Rattle.walk.specs.Head.{headOf}
+use Rattle.walk.specs.Walk.{nextAt}
+use Rattle.walk.specs.declared.Head.the-variants as head
+use Rattle.walk.specs.declared.Next.the-variants.{Frame}
+use Rattle.reel.specs.Check.{checkReel}
+use Rattle.laps.specs.Laps.{lastOf, Reads}
+use Rattle.build.specs.declared.Reel.{Reel}
+use Rattle.build.specs.declared.Built.the-variants.{Done}
+use Rattle.build.specs.Record.{reel, made}
+use Rattle.build.specs.Header.{fileHeader}
+use Rattle.build.specs.Building.{openReel, addFrame}
+
+module _ (w h speed : ℕ) where
+  -- Bytes and a record that came from an open and adds, "no byte or record .. altered" in between, "each accepted add .. handed the one the last
+  -- accepted add asked for, blank at first"; the list: the states asked for by the accepted adds, in order. A picture's bytes are bytes, as in every
+  -- lent slice.
+  pub data Making : List ℕ → Reel → List State → Type 0 where
+    opening : (b : List ℕ) {b′ : List ℕ} {r : Reel} → openReel w h speed b ≡ made (Done r) b′ → Making b′ r []
+    adding : {b b′ : List ℕ} {r r′ : Reel} {asked : List State} → Making b r asked → (p q p′ q′ : List ℕ) → Bytes p′
+        → front (w * h) p q ≡ lastOf (blank (w * h)) asked → addFrame r b p q p′ q′ ≡ made (Done r′) b′
+        → Making b′ r′ (asked ++ (front (w * h) p′ q′ ∷ []))
+    refusing : {b : List ℕ} {r : Reel} {asked : List State} → Making b r asked → (p q p′ q′ : List ℕ) (number place : ℕ)
+        → addFrame r b p q p′ q′ .said ≡ refused number place → Making (addFrame r b p q p′ q′ .bytes) r asked
+
+  -- What a closed reel is, of which first and rest were asked for: b its bytes, r its record.
+  pub record Finished (first : State) (rest : List State) (b : List ℕ) (r : Reel) : Type 0 where
+    -- the record is closed, and its end is the file's size
+    pub record-is : r ≡ reel w h (suc (length rest)) (r .end) true
+    -- the header, field by field
+    pub second : ℕ
+    pub header : take 128 b ≡ fileHeader (r .end) (suc (length rest)) w h 3 speed 128 second
+    pub header-read : headOf b ≡ head.Reel w h (suc (length rest)) (r .end)
+    -- "oframe1 128, oframe2 the second frame chunk (the ring, if there is one frame)"
+    pub oframe1-is : nextAt (take (r .end) b) 128 ≡ Frame 128 second
+    pub third : ℕ
+    pub oframe2-is : nextAt (take (r .end) b) second ≡ Frame second third
+    -- "The closed reel shows every state asked for", and its ring the first of them
+    pub shows : Reads w h (take (r .end) b) 128 (blank (w * h)) (first ∷ (rest ++ (first ∷ [])))
+    -- the check of the whole reel accepts it
+    pub accepted : (p q p′ q′ : List ℕ) → enough (w * h) p q ≡ true → enough (w * h) p′ q′ ≡ true → checkReel b p q p′ q′ .said ≡ done []
+
+-- a byte of the header that lies in none of the fields that a close sets: size, frames, flags, both oframes
+pub record Other (i : ℕ) : Type 0 where
+  pub in-header : i < 128
+  pub not-size : 4 ≤ i
+  pub not-frames : (i < 6) ⊎ (8 ≤ i)
+  pub not-flags : (i < 14) ⊎ (16 ≤ i)
+  pub not-oframes : (i < 80) ⊎ (88 ≤ i)

@@ -1,0 +1,69 @@
+-- What a player shows that plays frame 1, and then frames 2 to the ring again and again; and that an accepted reel leads back.
+use Prim.Native.Nat.{ℕ, zero, suc, _*_}
+use mathlib.Core.List.{List, [], _∷_, _++_}
+use mathlib.Core.Bool.{Bool, false}
+use mathlib.Core.Path.{_≡_}
+use lib.ListN.{length, take}
+use Rattle.words.specs.Words.{part}
+use Rattle.answer.specs.Answer.{State, blank}
+use Rattle.answer.specs.declared.Answer.the-variants.{Done}
+use Rattle.frame.specs.Reading.{outcome, readFrame}
+use Rattle.walk.specs.Head.{headOf}
+use Rattle.walk.specs.Walk.{nextAt}
+use Rattle.walk.specs.declared.Head.the-variants.{Reel}
+use Rattle.walk.specs.declared.Next.the-variants.{Frame}
+use Rattle.reel.specs.Play.{oneFrame}
+use Rattle.reel.specs.declared.Ran.{Ran}
+use Rattle.reel.specs.declared.Ran.the-variants.{Stopped, To}
+
+-- the last of the states ts, s where there is none
+abbrev pub lastOf : State → List State → State
+lastOf s [] = s
+lastOf s (t ∷ ts) = lastOf t ts
+
+-- a list of states, k times
+unfoldable pub times : ℕ → List State → List State
+times zero ts = []
+times (suc k) ts = ts ++ times k ts
+
+-- the state of a frame, if it was accepted, and then those that follow
+abbrev pub statesBy : Ran → State → (ℕ → State → List State) → List State
+statesBy (Stopped e place) s rest = []
+statesBy (To last next) s rest = s ∷ rest next s
+
+module _ (packed : Bool) (w h : ℕ) (b : List ℕ) where
+  -- the states after each of count frames from offset at on, the first read against s
+  unfoldable pub states : ℕ → ℕ → State → List State
+  unfolding oneFrame
+  states zero at s = []
+  states (suc count) at s =
+      statesBy (oneFrame packed w h b at s .result) (oneFrame packed w h b at s .after) (λ at′ s′. states count at′ s′)
+
+module _ (w h : ℕ) (b : List ℕ) where
+  -- k laps, each of count frames from offset at on and begun with the state that the lap before left
+  unfoldable pub laps : ℕ → ℕ → ℕ → State → List State
+  unfolding states
+  laps zero count at s = []
+  laps (suc k) count at s = states false w h b count at s ++ laps k count at (lastOf s (states false w h b count at s))
+
+  -- the frames that are met one after the other from offset at on, each read by `read_frame` against the state before it, give these states
+  pub data Reads : ℕ → State → List State → Type 0 where
+    none : {at : ℕ} {s : State} → Reads at s []
+    then : {at : ℕ} {s : State} {ts : List State} (from end : ℕ) (t : State) → nextAt b at ≡ Frame from end
+        → readFrame (part b from end) w h (s .picture) (s .palette) ≡ outcome Done (t .picture) (t .palette)
+        → Reads end t ts → Reads at s (t ∷ ts)
+
+-- A reel of count frames that leads back: frame 1 is read from blank and shows one; frames 2 to count show the states of middle, and the ring shows one
+-- again. second: where frame 1 ends, from which each further lap is played.
+pub record LeadsBack (b : List ℕ) : Type 0 where
+  pub width : ℕ
+  pub height : ℕ
+  pub count : ℕ
+  pub size : ℕ
+  pub head : headOf b ≡ Reel width height count size
+  pub one : State
+  pub middle : List State
+  pub many : suc (length middle) ≡ count
+  pub reads : Reads width height (take size b) 128 (blank (width * height)) (one ∷ (middle ++ (one ∷ [])))
+  pub second : ℕ
+  pub every-lap : (k : ℕ) → laps width height (take size b) k count second one ≡ times k (middle ++ (one ∷ []))

@@ -1,0 +1,1 @@
+// A reel that the check accepts leads back, lap after lap: theorems over the definitions, no code.

@@ -1,0 +1,121 @@
+-- `one_frame` meets its contract: the frame that the step leads to lies within the bytes; it is played only where the check of it is done.
+use mathlib.Core.Path.{_≡_, ap₂, _∙_, sym}
+use mathlib.Core.List.{List}
+use Prim.Native.Nat.{ℕ, _-_}
+use native.Mathlib.Omega.{arith}
+use Rattle.words.specs.Words.{part}
+use Rattle.words.proofs.Laws.{span-length}
+use Rattle.answer.proofs.Laws.{size-in}
+use Rattle.answer.specs.Answer.{state}
+use Rattle.walk.specs.Walk.{stepAt}
+use Rattle.walk.specs.declared.Next.the-variants.{Frame}
+use Rattle.walk.proofs.Laws.{NextIn, step-in}
+use Rattle.reel.specs.Play.{ran}
+use Rattle.reel.specs.declared.Ran.the-variants.{To}
+use Rattle.frame.proofs.Theorems.{refused-within}
+use Rattle.reel.proofs.Laws.{exact-room, one-fault, one-refused, one-played}
+use borrow.Author.Needs.{needs}
+use Rattle.reel.proofs.one_frame.Statement.{statement}
+use Rattle.reel.proofs.one_frame.Tie as tie
+
+-- the step led to a frame
+stepped : (c : tie.After-known-told2) → let a = c .before .before .before .before .before .before .before .args in stepAt (a .packed) (a .b .now) (a .at) ≡ Frame (c .before .from .given .0 .0) (c .before .from .given .0 .1 .0)
+stepped c = sym (c .before .before .before .step-at .ensures) ∙ c .before .from .given .1
+
+-- it lies within the bytes
+inside : (c : tie.After-known-told2) → let a = c .before .before .before .before .before .before .before .args in NextIn (a .b .now) (a .at) (Frame (c .before .from .given .0 .0) (c .before .from .given .0 .1 .0))
+inside c = step-in (c .before .before .before .before .before .before .before .args .packed) (c .before .before .before .before .before .before .before .args .b .now) (c .before .before .before .before .before .before .before .args .at) (c .before .before .before .before .before .before .before .pre .0) _ (stepped c)
+
+step-at-requires : tie.Need-step-at-requires
+step-at-requires c κs = search needs
+
+enum-known-e : tie.Need-enum-known-e
+enum-known-e c = search needs
+
+enum-known-from : tie.Need-enum-known-from
+enum-known-from c = search needs
+
+sub-check-frame : tie.Need-sub-check-frame
+sub-check-frame c = omega (arith, inside c .1)
+
+part-check-frame-start : tie.Need-part-check-frame-start
+part-check-frame-start c = omega (arith, inside c .1)
+
+part-check-frame-end : tie.Need-part-check-frame-end
+part-check-frame-end c = inside c .2
+
+check-frame-requires : tie.Need-check-frame-requires
+check-frame-requires c κs = let s = size-in (c .before .before .before .before .before .before .before .before .args .width) (c .before .before .before .before .before .before .before .before .args .height) (c .before .before .before .before .before .before .before .before .pre .1 .size) in (s .1, s .3)
+
+enum-known-e-2 : tie.Need-enum-known-e-2
+enum-known-e-2 c = search needs
+
+add-t22 : tie.Need-add-t22
+add-t22 c =
+    let a = c .before .before .before .before .before .before .before .before .before .before .before .before .args in
+    let i = inside (c .before .before .before .before .before) in
+    let from = c .before .before .before .before .before .before .from .given .0 .0 in
+    let end = c .before .before .before .before .before .before .from .given .0 .1 .0 in
+    let place = refused-within (a .width) (a .height) (part (a .b .now) from end) _ _ (sym (c .before .before .before .check-frame .ensures) ∙ c .before .e2 .given .1) in
+    omega (arith, i .1, i .2, place, span-length (a .b .now) from end (end - from) (i .2) (omega (arith, i .1)))
+
+enum-told : tie.Need-enum-told
+enum-told c = search needs
+
+sub-play-frame : tie.Need-sub-play-frame
+sub-play-frame c = omega (arith, inside (c .before .before .before .before .before .before) .1)
+
+part-play-frame-start : tie.Need-part-play-frame-start
+part-play-frame-start c = omega (arith, inside (c .before .before .before .before .before .before) .1)
+
+part-play-frame-end : tie.Need-part-play-frame-end
+part-play-frame-end c = let i = inside (c .before .before .before .before .before .before) in omega (arith, i .1, i .2)
+
+play-frame-requires : tie.Need-play-frame-requires
+play-frame-requires c κs = exact-room (c .before .before .before .before .before .before .before .before .before .before .before .before .before .before .args .width) (c .before .before .before .before .before .before .before .before .before .before .before .before .before .before .args .height) (c .before .before .before .before .before .before .before .before .before .before .before .before .before .before .args .picture .now) (c .before .before .before .before .before .before .before .before .before .before .before .before .before .before .args .palette .now) (c .before .before .before .before .before .before .before .before .before .before .before .before .before .before .pre .1)
+
+returns : tie.Need-returns
+returns c =
+    let a = c .before .before .before .before .before .before .before .args in
+    sym (one-fault (a .packed) (a .width) (a .height) (a .b .now) (a .at) (state (a .picture .now) (a .palette .now)) _ _ (sym (c .before .before .before .step-at .ensures) ∙ c .before .e .given .1))
+
+returns-2 : tie.Need-returns-2
+returns-2 c =
+    let a = c .before .before .before .before .before .before .before .before .before .before .before .before .args in
+    sym (one-refused (a .packed) (a .width) (a .height) (a .b .now) (a .at) (state (a .picture .now) (a .palette .now)) _ _ (stepped (c .before .before .before .before .before)) _ _ (sym (c .before .before .before .check-frame .ensures) ∙ c .before .e2 .given .1))
+
+same-length : tie.Need-same-length
+same-length c = search needs
+
+same-length-2 : tie.Need-same-length-2
+same-length-2 c = search needs
+
+returns-3 : tie.Need-returns-3
+returns-3 c =
+    let a = c .before .before .before .before .before .before .before .before .before .before .before .before .before .before .before .before .before .before .before .args in
+    ap₂ (λ (p q : List ℕ). ran (To (c .before .before .before .before .before .before .before .before .before .before .before .before .before .from .given .0 .0) (c .before .before .before .before .before .before .before .before .before .before .before .before .before .from .given .0 .1 .0)) (state p q)) (c .before .before .before .before .play-frame .ensures .0) (c .before .before .before .before .play-frame .ensures .1)
+    ∙ sym (one-played (a .packed) (a .width) (a .height) (a .b .now) (a .at) (state (a .picture .now) (a .palette .now)) _ _ (stepped (c .before .before .before .before .before .before .before .before .before .before .before .before)) (sym (c .before .before .before .before .before .before .before .before .before .before .check-frame .ensures) ∙ c .before .before .before .before .before .before .before .before .enum-told .given .1))
+
+pub one-frame-spec : {M : Type 1} → statement M
+one-frame-spec =
+    tie.close
+    (tie.spec
+    step-at-requires
+    enum-known-e
+    enum-known-from
+    sub-check-frame
+    part-check-frame-start
+    part-check-frame-end
+    check-frame-requires
+    enum-known-e-2
+    add-t22
+    enum-told
+    sub-play-frame
+    part-play-frame-start
+    part-play-frame-end
+    play-frame-requires
+    returns
+    returns-2
+    same-length
+    same-length-2
+    returns-3)

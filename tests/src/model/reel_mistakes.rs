@@ -1,0 +1,95 @@
+//! The mistakes that the model's reels can make on purpose, with which a comparison shows that it can fail.
+
+macro_rules! mistakes {
+    ($($name:ident,)*) => {
+        /// One mistake, or none.
+        #[derive(Clone, Copy, Debug, PartialEq, Eq)]
+        pub enum Mistake {
+            None,
+            $($name,)*
+        }
+
+        /// Every mistake that a check, an open, an add or a close can make.
+        pub const MISTAKES: &[Mistake] = &[$(Mistake::$name,)*];
+    };
+}
+
+// In the order: file header, top-level chunks, ring, pairs; open; add and close; close alone.
+mistakes! {
+    SizeFieldBeforeMagic,
+    FlagsBeforeSizeField,
+    FlagsBeforePictureSize,
+    SlicesBeforeFlags,
+    DepthUnchecked,
+    FlagsAsBits,
+    HeaderOf4001Frames,
+    HeaderOfNoFrames,
+    ChunksPastSizeField,
+    StartsAtOframe1,
+    ShortFrameIs15,
+    MissingFrameAtPlace0,
+    FrameSizeBeforeLength,
+    PrefixOf16Bytes,
+    OtherChunksRefused,
+    AfterRingChecked,
+    StepsOverAllButFrame1,
+    PlaceWithinFrame,
+    RingNotRead,
+    RingNotCompared,
+    RingPaletteNotCompared,
+    RingPictureNotCompared,
+    RingExcessCompared,
+    RingPlace0,
+    RingNotCountedAt16,
+    Frame1AgainstFirstPair,
+    HalfReadFrameKept,
+    FirstPairAsFound,
+    SecondPairAsFound,
+    SecondPairIsLast,
+    PairsAsFoundWhenRefused,
+    ExcessBlanked,
+    BlankedBeforeChecks,
+    AspectOneToOne,
+    AspectByWidthAlone,
+    SpeedOfTwoBytes,
+    CreatorLeftOut,
+    FlagsAtOpen,
+    Oframe1AtOpen,
+    OpenClearsRest,
+    OpenWritesWhenShort,
+    OpenRoomBeforeSize,
+    RecordOfRefusedOpen,
+    SizeBeforeClosed,
+    RecordBeforeSlices,
+    RoomBeforeRecord,
+    EndInHeaderAccepted,
+    EndAtLengthRefused,
+    EndMovedWhenRefused,
+    WritesWhenShort,
+    ClosedTwoIsOpen,
+    FramePast4000,
+    AddFromBlank,
+    AddCountsInHeader,
+    CloseOfNone,
+    CloseOver4000,
+    CloseTwice,
+    CloseMarksRefused,
+    CloseStepsOver,
+    CloseMissingFrameIs15,
+    CloseTypeBeforeLength,
+    CloseFramesPastRecord,
+    CloseSizeFromHeader,
+    CloseRoomBeforeFrames,
+    CloseEarlyEndAccepted,
+    CloseEarlyEndAtPlace,
+    CloseBadRecordAsFound,
+    CloseCountsRing,
+    RingFromFrame1,
+    RingFromHandedState,
+    RingToBlank,
+    Oframe2OfOneFrameIs0,
+    Oframe2IsRing,
+    HeaderWrittenAnew,
+    HeaderWrittenWhenShort,
+    CloseKeepsEnd,
+}
