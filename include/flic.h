@@ -105,6 +105,22 @@ flic_reel_answer flic_close_reel(flic_reel reel, uint8_t *bytes, size_t bytes_le
                                  uint8_t *second_picture, size_t second_picture_len,
                                  uint8_t *second_palette, size_t second_palette_len);
 
+/* Checks what stands behind a reel in its file: nothing, or its index of frame offsets and trailer; anything else is
+ * refused 17. Walks the header and the chunks first, and opens no frame: a damaged frame is found by flic_check_reel. */
+flic_answer flic_check_trailer(const uint8_t *bytes, size_t bytes_len);
+
+/* Writes index and trailer behind the reel that stands at the front of the lent bytes, over whatever was there.
+ * Done gives the file's new length: the reel's size, 4 bytes for each frame and the ring, and 8. */
+flic_written flic_write_trailer(uint8_t *bytes, size_t bytes_len);
+
+/* No listing has more bytes: an output of this length is never refused 3. */
+#define FLIC_LIST_MOST 218047
+
+/* Lists the chunks of a reel of at most 65,536 bytes as text, one line each with depth, offset, kind and size; of a
+ * file that can't be listed the text is the one line `refused N PLACE`. Done gives the text's length; there is no byte
+ * of 0 behind it. */
+flic_written flic_list(const uint8_t *bytes, size_t bytes_len, uint8_t *out, size_t out_len);
+
 #ifdef __cplusplus
 }
 #endif

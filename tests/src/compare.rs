@@ -22,6 +22,16 @@ pub fn hex(bytes: &[u8]) -> String {
     bytes.iter().map(|byte| format!("{byte:02x}")).collect()
 }
 
+/// How many bytes of a slice are printed.
+const MOST_PRINTED: usize = 4_000;
+
+/// Prints a slice that a difference was met with.
+pub fn print_bytes(name: &str, bytes: &[u8]) {
+    let printed = &bytes[..bytes.len().min(MOST_PRINTED)];
+    let rest = if printed.len() < bytes.len() { " and more" } else { "" };
+    println!("  {name}, {} bytes: {}{rest}", bytes.len(), hex(printed));
+}
+
 /// An answer in words.
 pub fn in_words(number: u32, place: u64) -> String {
     match number {
@@ -74,7 +84,7 @@ pub fn answer_difference(found: FlicAnswer, wanted: FlicAnswer, what: String) ->
     Difference { library: in_words(found), model: in_words(wanted), what }
 }
 
-fn written_difference(found: FlicWritten, wanted: FlicWritten, what: String) -> Difference {
+pub fn written_difference(found: FlicWritten, wanted: FlicWritten, what: String) -> Difference {
     let in_words =
         |written: FlicWritten| format!("{}, length {}", in_words(written.number, written.place), written.length);
     Difference { library: in_words(found), model: in_words(wanted), what }

@@ -2,7 +2,7 @@
 
 use crate::frames::{Chunk, Frame, KINDS, UNKNOWN};
 use crate::model::rng::Rng;
-use crate::model::{FRAME_HEADER, FRAME_TYPE};
+use crate::model::{FRAME_HEADER, FRAME_TYPE, PREFIX_TYPE};
 
 const COUNT_OFFSET: usize = 6;
 const TYPE_OFFSET: usize = 4;
@@ -54,7 +54,7 @@ pub fn wrong_header(frame: &Frame, rng: &mut Rng) -> Vec<u8> {
             set_word(&mut bytes, COUNT_OFFSET, frame.chunks.len() as u16 + more);
         }
         3 => {
-            let wrong = rng.pick(&[0xF100, 0xFAF1, 0, FRAME_TYPE ^ 1, FRAME_TYPE ^ 0x8000, FRAME_TYPE & 0xFF]);
+            let wrong = rng.pick(&[PREFIX_TYPE, 0xFAF1, 0, FRAME_TYPE ^ 1, FRAME_TYPE ^ 0x8000, FRAME_TYPE & 0xFF]);
             set_word(&mut bytes, TYPE_OFFSET, wrong);
             if rng.once_in(2) {
                 set_size(&mut bytes, 0, 3);

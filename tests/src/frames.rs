@@ -1,7 +1,7 @@
 //! Builds frames: valid sub-chunks of every kind with all their freedoms, or with a slip past a limit.
 
 use crate::model::rng::Rng;
-use crate::model::{kind, CHUNK_HEADER, FRAME_HEADER, FRAME_TYPE};
+use crate::model::{kind, CHUNK_HEADER, FRAME_HEADER, FRAME_TYPE, PREFIX_TYPE};
 
 /// The kinds that a frame may hold, an unknown one (0) among them.
 pub const KINDS: [u16; 9] =
@@ -10,7 +10,7 @@ pub const KINDS: [u16; 9] =
 /// Stands for any kind that document 01 doesn't name.
 pub const UNKNOWN: u16 = 0;
 
-const UNKNOWN_KINDS: [u16; 14] = [0, 1, 3, 5, 6, 8, 14, 17, 19, 0x0104, 0x010F, 0x8007, FRAME_TYPE, 0xF100];
+const UNKNOWN_KINDS: [u16; 14] = [0, 1, 3, 5, 6, 8, 14, 17, 19, 0x0104, 0x010F, 0x8007, FRAME_TYPE, PREFIX_TYPE];
 
 pub fn is_known(kind: u16) -> bool {
     KINDS.contains(&kind) && kind != UNKNOWN

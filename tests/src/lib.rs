@@ -12,4 +12,6 @@ pub mod reels;
 pub mod sizes;
 pub mod states;
 pub mod tally;
+pub mod trailers;
 pub mod write_cases;
+pub mod wrongs;

@@ -4,6 +4,7 @@
 use flic_tests::boundary::{FlicAnswer, FlicWritten, ReadCall, RewriteCall, WriteCall};
 use flic_tests::model::reel::Reel;
 use flic_tests::reels::boundary::{AddCall, CheckCall, CloseCall, FlicReelAnswer, OpenCall};
+use flic_tests::trailers::boundary::{ListCall, TrailerCall};
 
 extern "C" {
     fn flic_read_frame(
@@ -91,6 +92,12 @@ extern "C" {
         second_palette: *mut u8,
         second_palette_length: usize,
     ) -> FlicReelAnswer;
+
+    fn flic_check_trailer(bytes: *const u8, bytes_length: usize) -> FlicAnswer;
+
+    fn flic_write_trailer(bytes: *mut u8, bytes_length: usize) -> FlicWritten;
+
+    fn flic_list(bytes: *const u8, bytes_length: usize, out: *mut u8, out_length: usize) -> FlicWritten;
 }
 
 /// Reads one frame.
@@ -223,4 +230,23 @@ pub fn closes(call: &mut CloseCall) -> FlicReelAnswer {
             second.palette.length(),
         )
     }
+}
+
+/// Checks a trailer.
+pub fn checks_trailer(call: &mut TrailerCall) -> FlicAnswer {
+    // SAFETY: the pointer goes with its slice's length.
+    unsafe { flic_check_trailer(call.bytes.pointer(), call.bytes.length()) }
+}
+
+/// Writes a trailer.
+pub fn writes_trailer(call: &mut TrailerCall) -> FlicWritten {
+    // SAFETY: the pointer goes with its slice's length.
+    unsafe { flic_write_trailer(call.bytes.pointer(), call.bytes.length()) }
+}
+
+/// Lists a reel's chunks.
+pub fn lists(call: &mut ListCall) -> FlicWritten {
+    let (bytes, out) = (&mut call.bytes, &mut call.out);
+    // SAFETY: each pointer goes with its own slice's length, and the slices don't overlap.
+    unsafe { flic_list(bytes.pointer(), bytes.length(), out.pointer(), out.length()) }
 }

@@ -1,4 +1,4 @@
--- The magic of a file, the type of a frame chunk, and the kinds of its sub-chunks, by the names of document 001.
+-- The magic of a file, the types of its chunks, and the kinds of sub-chunks, by the names of document 001.
 use Prim.Native.Nat.{ℕ}
 
 -- hex AF12
@@ -8,6 +8,10 @@ FLC-MAGIC = 44818
 -- hex F1FA
 abbrev pub FRAME-TYPE : ℕ
 FRAME-TYPE = 61946
+
+-- hex F100
+abbrev pub PREFIX-TYPE : ℕ
+PREFIX-TYPE = 61696
 
 abbrev pub FLI-COLOR256 : ℕ
 FLI-COLOR256 = 4
@@ -29,3 +33,7 @@ FLI-BRUN = 15
 
 abbrev pub FLI-COPY : ℕ
 FLI-COPY = 16
+
+-- the postage stamp
+abbrev pub FLI-PSTAMP : ℕ
+FLI-PSTAMP = 18

@@ -15,8 +15,10 @@ pub const MAX_FRAMES: usize = 4000;
 // The magic of an FLC file.
 pub const FLC_MAGIC: usize = 0xaf12;
 
-// The type of a frame chunk, and the kinds of its sub-chunks, by the names of document 001.
+// The types of a frame chunk and of a prefix chunk, and the kinds of sub-chunks, by the names of document 001.
 pub const FRAME_TYPE: usize = 0xf1fa;
+
+pub const PREFIX_TYPE: usize = 0xf100;
 
 pub const FLI_COLOR256: usize = 4;
 
@@ -31,6 +33,8 @@ pub const FLI_BLACK: usize = 13;
 pub const FLI_BRUN: usize = 15;
 
 pub const FLI_COPY: usize = 16;
+
+pub const FLI_PSTAMP: usize = 18;
 
 // The refusals, in the order of their numbers (document 01, "Refusal numbers").
 pub enum Refusal {

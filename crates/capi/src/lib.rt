@@ -8,6 +8,8 @@ ghost use Rattle.reel.specs.Check.{checkReel};
 ghost use Rattle.build.specs.Record.{toldBuilt};
 ghost use Rattle.build.specs.Building.{openReel, addFrame};
 ghost use Rattle.close.specs.Closing.{closeReel};
+ghost use Rattle.trailer.specs.Trailer.{checkTrailer, writeTrailer};
+ghost use Rattle.listing.specs.Listing.{list};
 ghost use Rattle.capi.specs.Capi.{lengthOf, nothing, reelOf, recordOf, Told, Read, Wrote, Rewrote, CheckedReel, BuiltReel, ClosedReel};
 use build::Built;
 use build::Reel;
@@ -279,4 +281,31 @@ pub extern "C" fn flic_close_reel(
         second_palette,
     );
     built_for_c(a, reel)
+}
+
+// Checks what stands behind a reel.
+#[no_mangle]
+pub extern "C" fn flic_check_trailer(bytes: &[u8]) -> Answered
+    ensures { λ r. ⌜ Told (r .number) (r .place) (checkTrailer (now (bytes .entry))) ⌝ }
+{
+    let a = trailer::check_trailer(bytes);
+    answer_for_c(a)
+}
+
+// Writes index and trailer behind a reel.
+#[no_mangle]
+pub extern "C" fn flic_write_trailer(bytes: &mut [u8]) -> Delivered
+    ensures { λ r. ⌜ Wrote (r .number) (r .place) (r .length) (now (bytes .exit)) (writeTrailer (now (bytes .entry))) ⌝ }
+{
+    let a = trailer::write_trailer(bytes);
+    written_for_c(a)
+}
+
+// Lists the chunks of a reel as text.
+#[no_mangle]
+pub extern "C" fn flic_list(bytes: &[u8], out: &mut [u8]) -> Delivered
+    ensures { λ r. ⌜ Wrote (r .number) (r .place) (r .length) (now (out .exit)) (list (now (bytes .entry)) (now (out .entry))) ⌝ }
+{
+    let a = listing::list_into(bytes, out);
+    written_for_c(a)
 }

@@ -36,20 +36,20 @@ fn close_header(bytes: &mut [u8], size: usize, frames: usize, second: usize)
     words::put_u32(bytes, 84, second);
 }
 
-// Writes the ring, from the first state to the second, at the record's end and closes the header, if the ring fits.
+// Writes the ring, from the last state to that of frame 1, at the record's end and closes the header, if the ring fits.
 fn put_ring(
     bytes: &mut [u8],
     reel: Reel,
-    picture: &[u8],
-    palette: &[u8],
-    picture2: &[u8],
-    palette2: &[u8],
+    last_picture: &[u8],
+    last_palette: &[u8],
+    one_picture: &[u8],
+    one_palette: &[u8],
 ) -> Built
     requires { ⌜ (132 ≤ reel .end) × (reel .end ≤ length (now bytes)) × (reel .frames ≤ maxFrames)
-        × Pictures (reel .width) (reel .height) (now picture) (now picture2) × Palettes (now palette) (now palette2) ⌝ }
+        × Pictures (reel .width) (reel .height) (now «last_picture») (now «one_picture») × Palettes (now «last_palette») (now «one_palette») ⌝ }
     ensures { λ r.
         ⌜ made r (now (bytes .exit))
-        ≡ ringWritten reel (houseFrame (reel .width) (reel .height) (state (now (picture .entry)) (now (palette .entry))) (state (now (picture2 .entry)) (now (palette2 .entry)))) (now (bytes .entry)) ⌝ }
+        ≡ ringWritten reel (houseFrame (reel .width) (reel .height) (state (now («last_picture» .entry)) (now («last_palette» .entry))) (state (now («one_picture» .entry)) (now («one_palette» .entry)))) (now (bytes .entry)) ⌝ }
 {
     let width = reel.width;
     let height = reel.height;
@@ -58,10 +58,10 @@ fn put_ring(
     match build::append(
         bytes,
         reel.end,
-        picture,
-        palette,
-        picture2,
-        palette2,
+        last_picture,
+        last_palette,
+        one_picture,
+        one_palette,
         width,
         height,
     ) {

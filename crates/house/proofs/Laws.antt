@@ -268,10 +268,10 @@ house-short {w} {h} {p} {pp} {q} {qq} x y =
 -- the answer
 
 module _ (b d : List ℕ) (n : ℕ) (l : length b ≡ n) where
-  fitted-none : length d < n → output (Refused NoRoom 0) d ≡ fitted b d
+  pub fitted-none : length d < n → output (Refused NoRoom 0) d ≡ fitted b d
   fitted-none h = rw (lt-leb (length b) (length d) (omega arith))
 
-  fitted-whole : (e : List ℕ) → n ≤ length d → e ≡ put d 0 b → output (Done n) e ≡ fitted b d
+  pub fitted-whole : (e : List ℕ) → n ≤ length d → e ≡ put d 0 b → output (Done n) e ≡ fitted b d
   fitted-whole e h p = ap₂ (λ (x : ℕ) (y : List ℕ). output (Done x) y) (sym l) p ∙ rw (le-leb (length b) (length d) (omega arith))
 
 -- the house frame of the plans r and s

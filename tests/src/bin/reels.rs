@@ -6,7 +6,7 @@ mod library;
 use flic_tests::boundary::FlicAnswer;
 use flic_tests::cases::Family;
 use flic_tests::command::{fail, require_seen, task_or_exit, Task};
-use flic_tests::compare::{hex, Difference};
+use flic_tests::compare::{hex, print_bytes, Difference};
 use flic_tests::model::reel_mistakes::Mistake;
 use flic_tests::reels::boundary::{AddCall, CheckCall, CloseCall, OpenCall, Subject};
 use flic_tests::reels::cases::{AddCase, CheckCase, CloseCase, OpenCase, ReelCase};
@@ -19,8 +19,6 @@ use flic_tests::reels::self_check::seen_wrongs;
 use flic_tests::states::State;
 
 const BASE_SEED: u64 = 20_262;
-/// How many bytes of a slice a difference prints.
-const MOST_PRINTED: usize = 4_000;
 const LIBRARY: Subject = Subject {
     reads: library::reads,
     checks: library::checks,
@@ -116,12 +114,6 @@ fn print_difference(case: &ReelCase, difference: &Difference) {
     println!("  library: {}", difference.library);
     println!("  model:   {}", difference.model);
     println!("  differs: {}", difference.what);
-}
-
-fn print_bytes(name: &str, bytes: &[u8]) {
-    let printed = &bytes[..bytes.len().min(MOST_PRINTED)];
-    let rest = if printed.len() < bytes.len() { " and more" } else { "" };
-    println!("  {name}, {} bytes: {}{rest}", bytes.len(), hex(printed));
 }
 
 fn print_state(name: &str, state: &State) {

@@ -1,11 +1,11 @@
 //! The model's check of a whole reel: its header, its top-level chunks, its frames, and its ring.
 
-use super::decode::{size_at, word_at};
 use super::encode::Work;
-use super::file_header::{accepted, field, FileHeader, FILE_HEADER};
+use super::file_header::accepted;
 use super::playing::{Playing, Screen};
 use super::reel_mistakes::Mistake;
-use super::{number, Refusal, CHUNK_HEADER, FRAME_HEADER, FRAME_TYPE};
+use super::top_level::{Span, TopLevel};
+use super::{number, Refusal};
 
 /// Checks a closed reel; from the header's acceptance on, the pairs hold the last state and frame 1's.
 pub fn check_reel(bytes: &[u8], first: Work, second: Work) -> Result<(), Refusal> {
@@ -25,7 +25,8 @@ pub fn check_reel_with(mistake: Mistake, bytes: &[u8], mut first: Work, mut seco
     if mistake == Mistake::Frame1AgainstFirstPair {
         playing.last = Screen::held_by(&first, header.width * header.height);
     }
-    let played = Walk { bytes, header: &header, playing: &mut playing }.whole_reel();
+    let top = TopLevel::of(mistake, bytes, &header);
+    let played = Walk { bytes, top, frames: header.frames, playing: &mut playing }.whole_reel();
     playing.leave(played.is_err(), &mut first, &mut second);
     let ring = played?;
     let excess_differs = first.picture != second.picture || first.palette != second.palette;
@@ -35,26 +36,18 @@ pub fn check_reel_with(mistake: Mistake, bytes: &[u8], mut first: Work, mut seco
     Ok(())
 }
 
-/// Where a chunk stands.
-struct Span {
-    start: usize,
-    end: usize,
-}
-
 struct Walk<'a> {
     bytes: &'a [u8],
-    header: &'a FileHeader,
+    top: TopLevel<'a>,
+    frames: usize,
     playing: &'a mut Playing,
 }
 
 impl Walk<'_> {
     /// Plays all frames and the ring, compares, and gives the ring's offset.
     fn whole_reel(&mut self) -> Result<usize, Refusal> {
-        let mut place = match self.playing.mistake {
-            Mistake::StartsAtOframe1 => size_at(self.bytes, field::OFRAME1).min(self.end()),
-            _ => FILE_HEADER,
-        };
-        for _ in 0..self.header.frames {
+        let mut place = self.top.start();
+        for _ in 0..self.frames {
             place = self.next_frame(place)?.end;
         }
         if self.playing.mistake == Mistake::RingNotRead {
@@ -63,9 +56,7 @@ impl Walk<'_> {
         let before_ring = self.playing.last.clone();
         let ring = self.next_frame(place)?;
         self.compare_ring(ring.start, before_ring)?;
-        if self.playing.mistake == Mistake::AfterRingChecked && ring.end < self.end() {
-            self.chunk_at(ring.end)?;
-        }
+        self.top.pass_ring(ring)?;
         Ok(ring.start)
     }
 
@@ -92,8 +83,8 @@ impl Walk<'_> {
     fn next_frame(&mut self, from: usize) -> Result<Span, Refusal> {
         let mut place = from;
         loop {
-            let chunk = self.chunk_at(place)?;
-            if self.kind_at(place) == FRAME_TYPE {
+            let chunk = self.top.chunk_at(place)?;
+            if self.top.is_frame(place) {
                 if self.playing.mistake != Mistake::StepsOverAllButFrame1 || !self.playing.has_begun() {
                     self.playing.play(&self.bytes[place..chunk.end], place)?;
                 }
@@ -102,59 +93,14 @@ impl Walk<'_> {
             place = chunk.end;
         }
     }
-
-    /// Where the reel's chunks must end.
-    fn end(&self) -> usize {
-        match self.playing.mistake {
-            Mistake::ChunksPastSizeField => self.bytes.len(),
-            _ => self.header.size,
-        }
-    }
-
-    fn kind_at(&self, place: usize) -> u16 {
-        word_at(self.bytes, place + 4)
-    }
-
-    /// The top-level chunk at `place`: six bytes (15), a frame's 16 (4), its size too small (6) or too large (4).
-    fn chunk_at(&self, place: usize) -> Result<Span, Refusal> {
-        let mistake = self.playing.mistake;
-        let left = self.end() - place;
-        if left < CHUNK_HEADER {
-            let told = if mistake == Mistake::MissingFrameAtPlace0 { 0 } else { place };
-            return Err(Refusal::new(number::FRAME_MISSING, told));
-        }
-        let size = size_at(self.bytes, place);
-        let least = self.least_size(place)?;
-        if mistake == Mistake::FrameSizeBeforeLength && size < least {
-            return Err(Refusal::new(number::SIZE_TOO_SMALL, place));
-        }
-        if left < least {
-            let short = if mistake == Mistake::ShortFrameIs15 { number::FRAME_MISSING } else { number::CUT_SHORT };
-            return Err(Refusal::new(short, place));
-        }
-        if size < least {
-            return Err(Refusal::new(number::SIZE_TOO_SMALL, place));
-        }
-        if size > left {
-            return Err(Refusal::new(number::CUT_SHORT, place));
-        }
-        Ok(Span { start: place, end: place + size })
-    }
-
-    fn least_size(&self, place: usize) -> Result<usize, Refusal> {
-        match (self.kind_at(place), self.playing.mistake) {
-            (FRAME_TYPE, _) | (_, Mistake::PrefixOf16Bytes) => Ok(FRAME_HEADER),
-            (_, Mistake::OtherChunksRefused) => Err(Refusal::new(number::WRONG_TYPE, place)),
-            _ => Ok(CHUNK_HEADER),
-        }
-    }
 }
 
 #[cfg(test)]
 mod tests {
     use super::*;
     use crate::frames::{frame_of, Chunk};
-    use crate::model::{kind, PALETTE_BYTES};
+    use crate::model::file_header::FILE_HEADER;
+    use crate::model::{kind, FRAME_TYPE, PALETTE_BYTES, PREFIX_TYPE};
 
     const FILL: u8 = 0x77;
 
@@ -223,7 +169,7 @@ mod tests {
 
     #[test]
     fn other_chunks_are_stepped_over() {
-        let (frame, prefix, stamp) = (copies(1, 2), chunk(0xF100, 6, 6), chunk(18, 9, 9));
+        let (frame, prefix, stamp) = (copies(1, 2), chunk(PREFIX_TYPE, 6, 6), chunk(18, 9, 9));
         let junk = [1, 2, 3];
         let bytes = reel(1, &[&prefix, &frame, &stamp, &frame, &junk]);
         assert_eq!(checked(&bytes), (Ok(()), [pair(1, 2, 0); 2]));
@@ -241,10 +187,10 @@ mod tests {
         assert_eq!(answer(&chunk(FRAME_TYPE, 15, 15)), at_once(4));
         assert_eq!(answer(&chunk(FRAME_TYPE, 15, 16)), at_once(6));
         assert_eq!(answer(&chunk(FRAME_TYPE, 17, 16)), at_once(4));
-        assert_eq!(answer(&chunk(0xF100, 5, 6)), at_once(6));
-        assert_eq!(answer(&chunk(0xF100, 7, 6)), at_once(4));
-        assert_eq!(answer(&chunk(0xF100, u32::MAX, 15)), at_once(4));
-        assert_eq!(answer(&chunk(0xF100, 6, 11)).0, Err((15, 134)));
+        assert_eq!(answer(&chunk(PREFIX_TYPE, 5, 6)), at_once(6));
+        assert_eq!(answer(&chunk(PREFIX_TYPE, 7, 6)), at_once(4));
+        assert_eq!(answer(&chunk(PREFIX_TYPE, u32::MAX, 15)), at_once(4));
+        assert_eq!(answer(&chunk(PREFIX_TYPE, 6, 11)).0, Err((15, 134)));
     }
 
     #[test]

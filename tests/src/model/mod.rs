@@ -6,10 +6,14 @@ pub mod decode;
 pub mod encode;
 pub mod file_header;
 pub mod lent;
+pub mod listing;
 mod playing;
 pub mod reel;
 pub mod reel_mistakes;
 pub mod rng;
+mod top_level;
+pub mod trailer;
+mod walk;
 
 /// The largest width and height of a picture.
 pub const MAX_WIDTH: u64 = 320;
@@ -19,6 +23,7 @@ pub const MAX_HEIGHT: u64 = 200;
 pub const PALETTE_BYTES: usize = 768;
 
 pub const FRAME_TYPE: u16 = 0xF1FA;
+pub const PREFIX_TYPE: u16 = 0xF100;
 pub const FRAME_HEADER: usize = 16;
 pub const CHUNK_HEADER: usize = 6;
 
@@ -34,7 +39,7 @@ pub mod kind {
     pub const PSTAMP: u16 = 18;
 }
 
-/// The refusal numbers of frames and reels, by document 01's table.
+/// The refusal numbers of frames, reels and trailers, by document 01's table.
 pub mod number {
     pub const SHORT_SLICE: u32 = 1;
     pub const BAD_SIZE: u32 = 2;
@@ -52,6 +57,7 @@ pub mod number {
     pub const BAD_FILE_HEADER: u32 = 14;
     pub const FRAME_MISSING: u32 = 15;
     pub const RING_ASTRAY: u32 = 16;
+    pub const WRONG_TRAILER: u32 = 17;
     pub const CLOSED_OR_FULL: u32 = 18;
 }
 

@@ -7,7 +7,7 @@ use super::make::{check_of, close_of};
 use crate::damage::{changed_values, set_size, set_word};
 use crate::model::reel::Reel;
 use crate::model::rng::Rng;
-use crate::model::FRAME_TYPE;
+use crate::model::{FRAME_TYPE, PREFIX_TYPE};
 use crate::sizes::small_size;
 use crate::write_cases::ample_room;
 
@@ -67,7 +67,7 @@ fn alter(rng: &mut Rng, loose: &mut Loose) {
             chunk.extend(rng.bytes(more));
             set_size(chunk, 0, (length + more) as u32);
         }
-        4 => set_word(chunk, 4, rng.pick(&[0xF100, 18, FRAME_TYPE ^ 1, 0])),
+        4 => set_word(chunk, 4, rng.pick(&[PREFIX_TYPE, 18, FRAME_TYPE ^ 1, 0])),
         5 => {
             let other = other_chunk(rng);
             loose.chunks.insert(which, other);

@@ -6,7 +6,7 @@ use super::make::{check_of, close_of};
 use crate::damage::{self, set_size, set_word, wrong_size_field};
 use crate::model::file_header::{field, FILE_HEADER};
 use crate::model::rng::Rng;
-use crate::model::{kind, FRAME_TYPE};
+use crate::model::{kind, FRAME_TYPE, PREFIX_TYPE};
 use crate::sizes::{right_size, small_size};
 use crate::write_cases::ample_room;
 
@@ -58,7 +58,7 @@ pub fn left_over(rng: &mut Rng, sink: Sink) {
     let length = rng.pick(&[0, 30]);
     loose.after = rng.bytes(length);
     for left in 0..=20 {
-        for kind in [FRAME_TYPE, 0xF100, kind::PSTAMP] {
+        for kind in [FRAME_TYPE, PREFIX_TYPE, kind::PSTAMP] {
             for size in [0, 5, 6, 15, 16, left, left + 1, u32::MAX] {
                 loose.chunks[last] = chunk_of(rng, kind, size, left as usize);
                 if kind == FRAME_TYPE && left >= 8 {

@@ -34,18 +34,10 @@ pub const SMALL: usize = 18;
 #[cfg(test)]
 mod tests {
     use super::*;
+    use crate::cases::same_again;
 
     #[test]
     fn a_seed_gives_its_batch_again() {
-        for family in &FAMILIES[..SMALL] {
-            let collected = |seed| {
-                let mut all = Vec::new();
-                family.batch(seed, &mut |case| all.push(case));
-                all
-            };
-            let seed = family.seed_of(1, 2);
-            assert!(collected(seed) == collected(seed), "family {}", family.name);
-            assert!(!collected(seed).is_empty());
-        }
+        FAMILIES[..SMALL].iter().for_each(same_again);
     }
 }

@@ -35,7 +35,7 @@ pub fn opens(rng: &mut Rng, sink: Sink) {
 }
 
 /// A closed reel of few bytes.
-fn small_reel(rng: &mut Rng) -> Vec<u8> {
+pub fn small_reel(rng: &mut Rng) -> Vec<u8> {
     loop {
         let (width, height) = small_size(rng);
         let frames = rng.between(1, 3);

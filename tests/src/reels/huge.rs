@@ -11,7 +11,7 @@ use crate::model::reel::Reel;
 use crate::model::{FRAME_HEADER, FRAME_TYPE};
 use crate::states::State;
 
-const LARGEST: u64 = u32::MAX as u64;
+pub const LARGEST: u64 = u32::MAX as u64;
 const LENGTH: usize = LARGEST as usize + 64;
 const SEED: u64 = 32;
 
@@ -28,9 +28,9 @@ fn blank() -> LentState {
     LentState::holding(&State::blank(1), SEED)
 }
 
-/// A reel of one frame that ends at `end`, and its record.
-fn one_frame(end: u64) -> Option<(Lent, Reel)> {
-    let mut bytes = Lent::of_zeros(LENGTH, SEED)?;
+/// Bytes of this length with a reel of one frame that ends at `end`, and its record.
+fn one_frame(length: usize, end: u64) -> Option<(Lent, Reel)> {
+    let mut bytes = Lent::of_zeros(length, SEED)?;
     let size = u32::try_from(end - FILE_HEADER as u64).expect("the header makes up for an end past 32 bits");
     let open = open_reel(1, 1, 0, bytes.content_mut()).reel;
     let frame = &mut bytes.content_mut()[FILE_HEADER..];
@@ -47,27 +47,32 @@ fn windows(bytes: &Lent) -> Vec<u8> {
 }
 
 fn added(subject: &Subject, end: u64) -> Option<Told> {
-    let (bytes, reel) = one_frame(end)?;
+    let (bytes, reel) = one_frame(LENGTH, end)?;
     let mut call = AddCall { reel, bytes, shown: blank(), next: blank() };
     let answer = (subject.adds)(&mut call);
     Some((FlicAnswer { number: answer.number, place: answer.place }, answer.reel, windows(&call.bytes)))
 }
 
 fn closed(subject: &Subject, end: u64) -> Option<Told> {
-    let (bytes, reel) = one_frame(end)?;
+    let (bytes, reel) = one_frame(LENGTH, end)?;
     let mut call = CloseCall { reel, bytes, first: blank(), second: blank() };
     let answer = (subject.closes)(&mut call);
     Some((FlicAnswer { number: answer.number, place: answer.place }, answer.reel, windows(&call.bytes)))
 }
 
-/// Closes a reel with the model, and checks it.
-fn checked(subject: &Subject, end: u64) -> Option<Told> {
-    let (bytes, reel) = one_frame(end)?;
+/// Bytes of this length with a reel of one frame that the model closed, the ring being 16 bytes from `end` on.
+pub fn closed_by_model(length: usize, end: u64) -> Option<(Lent, Reel)> {
+    let (bytes, reel) = one_frame(length, end)?;
     let mut close = CloseCall { reel, bytes, first: blank(), second: blank() };
     let closed = (MODEL.closes)(&mut close);
-    let mut call = CheckCall { bytes: close.bytes, first: blank(), second: blank() };
+    Some((close.bytes, closed.reel))
+}
+
+fn checked(subject: &Subject, end: u64) -> Option<Told> {
+    let (bytes, reel) = closed_by_model(LENGTH, end)?;
+    let mut call = CheckCall { bytes, first: blank(), second: blank() };
     let answer = (subject.checks)(&mut call);
-    Some((answer, closed.reel, windows(&call.bytes)))
+    Some((answer, reel, windows(&call.bytes)))
 }
 
 /// Compares the subject with the model; gives how many calls agreed, or none where so many bytes can't be had.

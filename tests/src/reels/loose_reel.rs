@@ -8,7 +8,7 @@ use crate::model::encode::house_frame;
 use crate::model::file_header::{field, FILE_HEADER};
 use crate::model::reel::Reel;
 use crate::model::rng::Rng;
-use crate::model::{kind, FRAME_TYPE};
+use crate::model::{kind, FRAME_TYPE, PREFIX_TYPE};
 use crate::sizes::small_size;
 use crate::states::State;
 
@@ -119,7 +119,8 @@ pub fn chunk_of(rng: &mut Rng, kind: u16, size: u32, length: usize) -> Vec<u8> {
 /// A prefix chunk, a postage stamp, or another that is stepped over.
 pub fn other_chunk(rng: &mut Rng) -> Vec<u8> {
     let drawn = rng.draw() as u16;
-    let kind = rng.pick(&[0xF100, 0xF100, kind::PSTAMP, 0, kind::COLOR256, kind::BLACK, 0xF1FB, 0xAF12, drawn]);
+    let kind =
+        rng.pick(&[PREFIX_TYPE, PREFIX_TYPE, kind::PSTAMP, 0, kind::COLOR256, kind::BLACK, 0xF1FB, 0xAF12, drawn]);
     let kind = if kind == FRAME_TYPE { 0 } else { kind };
     let length = rng.pick(&[6, 6, 7, 15, 16, 17, 40]);
     chunk_of(rng, kind, length as u32, length)

@@ -30,7 +30,7 @@ same-length c = search needs
 returns : tie.Need-returns
 returns c =
     let a = c .before .before .before .before .before .before .before .before .before .before .before .before .before .before .args in
-    ring-refused (a .reel) (houseFrame (a .reel .width) (a .reel .height) (state (a .picture .now) (a .palette .now)) (state (a .picture2 .now) (a .palette2 .now))) (a .bytes .now) _ (c .before .e .given .0 .0) (c .before .e .given .0 .1 .0) (ap (λ (x : Written). output x (c .before .before .before .before .before .append .last .0)) (sym (c .before .e .given .1)) ∙ c .before .before .before .before .before .append .ensures)
+    ring-refused (a .reel) (houseFrame (a .reel .width) (a .reel .height) (state (a .last-picture .now) (a .last-palette .now)) (state (a .one-picture .now) (a .one-palette .now))) (a .bytes .now) _ (c .before .e .given .0 .0) (c .before .e .given .0 .1 .0) (ap (λ (x : Written). output x (c .before .before .before .before .before .append .last .0)) (sym (c .before .e .given .1)) ∙ c .before .before .before .before .before .append .ensures)
 
 same-length-2 : tie.Need-same-length-2
 same-length-2 c = search needs
@@ -38,7 +38,7 @@ same-length-2 c = search needs
 returns-2 : tie.Need-returns-2
 returns-2 c =
     let a = c .before .before .before .before .before .before .before .before .before .before .before .before .before .before .before .before .before .before .args in
-    ring-done (a .reel) (houseFrame (a .reel .width) (a .reel .height) (state (a .picture .now) (a .palette .now)) (state (a .picture2 .now) (a .palette2 .now))) (a .bytes .now) _ _ _ _ (ap (λ (x : Written). output x (c .before .before .before .before .before .before .before .before .before .append .last .0)) (sym (c .before .before .before .before .before .size .given .1)) ∙ c .before .before .before .before .before .before .before .before .before .append .ensures) (c .before .before .before .before .before .before .before .before .before .before .before .second-at .ensures) (c .before .before .close-header .ensures)
+    ring-done (a .reel) (houseFrame (a .reel .width) (a .reel .height) (state (a .last-picture .now) (a .last-palette .now)) (state (a .one-picture .now) (a .one-palette .now))) (a .bytes .now) _ _ _ _ (ap (λ (x : Written). output x (c .before .before .before .before .before .before .before .before .before .append .last .0)) (sym (c .before .before .before .before .before .size .given .1)) ∙ c .before .before .before .before .before .before .before .before .before .append .ensures) (c .before .before .before .before .before .before .before .before .before .before .before .second-at .ensures) (c .before .before .close-header .ensures)
 
 pub put-ring-spec : {M : Type 1} → statement M
 put-ring-spec =

@@ -1,0 +1,239 @@
+-- How long the text of a listing is: a chunk of s bytes, with all that is inside it, takes at most 20 bytes of text for each 6 of the s.
+-- Its own line has at most 20, and its children lie behind its first 12 or 16.
+use mathlib.Core.Path.{_≡_, refl, ap, subst}
+use mathlib.Core.List.{List, [], _++_}
+use mathlib.Core.Bool.{Bool, true, false}
+use Prim.Native.Nat.{ℕ, zero, suc, _+_, _-_, _*_, _≤_, _<_}
+use native.Mathlib.Omega.{arith}
+use borrow.Author.Tests.{ltb-false, leb-true, leb-false}
+use lib.Dec.{leb, ltb, eqb}
+use lib.ListN.{length, getD, take, drop, length-append}
+use lib.Seq.{length-take-le, getD-take}
+use Rattle.words.specs.Words.{pick, u16At, u32At, Bytes}
+use Rattle.words.proofs.Laws.{bytes-getD, bytes-take}
+use Rattle.answer.specs.Answer.{number}
+use Rattle.answer.specs.Format.{FRAME-TYPE}
+use Rattle.answer.proofs.Laws.{size-in}
+use Rattle.answer.specs.declared.Refusal.{Refusal}
+use Rattle.answer.specs.declared.Refusal.the-variants.{ShortSlice, BadSize, NoRoom, Cut, WrongType, SmallSize, BodyEnds, ZeroCount, PastWidth, PastHeight, BadWord, PastPalette, OverLevel, BadHeader, FewFrames, BadRing, BadTrailer, WrongTime}
+use Rattle.answer.specs.declared.Answer.{Answer}
+use Rattle.answer.specs.declared.Answer.the-variants.{Done, Refused}
+use Rattle.frame.specs.Frame.{headerAt, frameHeader}
+use Rattle.frame.specs.declared.Header.{Header}
+use Rattle.frame.specs.declared.Header.the-variants.{Fault, Chunk}
+use Rattle.frame.specs.declared.FrameHeader.{FrameHeader}
+use Rattle.frame.specs.declared.FrameHeader.the-variants as whole
+use Rattle.frame.proofs.Laws.{HeaderIn, header-in}
+use Rattle.walk.specs.Head.{headOf}
+use Rattle.walk.specs.declared.Head.{Head}
+use Rattle.walk.specs.declared.Head.the-variants as head
+use Rattle.walk.specs.Walk.{framed, packedAt, steppedOver, within, nextAt}
+use Rattle.walk.specs.declared.Next.{Next}
+use Rattle.walk.specs.declared.Next.the-variants as next
+use Rattle.walk.proofs.Laws.{ReelIn, HeadIn, head-in, NextIn, step-in}
+use Rattle.trailer.specs.Trailer.{afterNext, topFrames}
+use Rattle.text.specs.Text.{headLine, chunkLine, okLine, refusedLine}
+use Rattle.text.proofs.Laws.{head-short, chunk-short, refused-short}
+use Rattle.listing.specs.Listing.{headBytes, countAt, opens, afterChild, childrenBy, inside, containerOf, childrenOf, ringEnd, chunkLines, walkLines, headLines, listing}
+use Rattle.listing.specs.Room.{Listed}
+use Rattle.listing.proofs.Laws.{head-bytes-in, ring-in, chunk-lines-are, listing-long, listing-head}
+
+-- the kind in a header
+
+abbrev KindIn : List ℕ → ℕ → Header → Type 0
+KindIn b at (Fault e) = Unit {0}
+KindIn b at (Chunk kind end) = kind ≡ u16At b (at + 4)
+
+header-kind : (b : List ℕ) (at : ℕ) (x : Header) → headerAt b at ≡ x → KindIn b at x
+unfolding headerAt
+header-kind b at x e = subst (KindIn b at) e (by (leb (at + 6) (length b)) (leb 6 (u32At b at)) (leb (at + u32At b at) (length b)))
+  where
+    by : (a s l : Bool) → KindIn b at (pick a (pick s (pick l (Chunk (u16At b (at + 4)) (at + u32At b at)) (Fault Cut)) (Fault SmallSize)) (Fault Cut))
+    by false s l = tt
+    by true false l = tt
+    by true true false = tt
+    by true true true = refl
+
+-- a chunk that lies within the first to bytes, and its line
+pub record Child (depth to at kind end : ℕ) : Type 0 where
+  pub long : at + 6 ≤ end
+  pub within : end ≤ to
+  pub line : length (chunkLine depth at kind (end - at)) ≤ 20
+
+module _ (b : List ℕ) (bytes : (i : ℕ) → getD b i 0 < 256) (few : length b ≤ 65536) where
+  pub child-in : (depth to at kind end : ℕ) → depth ≤ 8 → to ≤ length b → headerAt (take to b) at ≡ Chunk kind end → Child depth to at kind end
+  unfolding u16At
+  child-in depth to at kind end d w there =
+      let i = header-in (take to b) at _ there in
+      let long : at + 6 ≤ end = i .0 in
+      let within : end ≤ to = omega (arith, i .1, length-take-le to b w) in
+      let low = getD-take to b (at + 4) 0 (omega arith) in
+      let high = getD-take to b (at + 4 + 1) 0 (omega arith) in
+      let small : kind < 65536 = omega (arith, header-kind (take to b) at _ there, low, high, bytes (at + 4), bytes (at + 4 + 1)) in
+      record { long = long; within = within; line = chunk-short depth at kind (end - at) (omega arith) (omega arith) (omega arith) (omega arith) }
+
+  -- what is inside a chunk takes no more than its line leaves
+  Short : (ℕ → ℕ → ℕ → List ℕ) → Type 0
+  Short inner = (at end kind : ℕ) → at + 6 ≤ end → end ≤ length b → 6 * length (inner at end kind) ≤ 20 * (end - at - 6)
+
+  opened-by : (inner : ℕ → ℕ → ℕ → List ℕ) → Short inner → (t : Bool) (depth to at kind end : ℕ) → to ≤ length b → Child depth to at kind end
+      → 6 * length (pick t (inner at end kind) []) ≤ 20 * (end - at - 6)
+  unfolding Short
+  opened-by inner s true depth to at kind end w i = s at end kind (i .long) (omega arith)
+  opened-by inner s false depth to at kind end w i = omega arith
+
+  children-by : (inner : ℕ → ℕ → ℕ → List ℕ) → Short inner → (depth parent to count at : ℕ) → depth ≤ 8 → at ≤ to → to ≤ length b
+      → 6 * length (childrenBy inner b depth parent to count at) ≤ 20 * (to - at)
+  unfolding childrenBy
+  children-by inner s depth parent to zero at d h w = omega arith
+  children-by inner s depth parent to (suc count) at d h w =
+      by (headerAt (take to b) at) refl (λ end i. children-by inner s depth parent to count end d i w)
+    where
+      rest : ℕ → List ℕ
+      rest end = childrenBy inner b depth parent to count end
+
+      by : (x : Header) → headerAt (take to b) at ≡ x → ((end : ℕ) → end ≤ to → 6 * length (rest end) ≤ 20 * (to - end))
+          → 6 * length (afterChild inner depth parent at x rest) ≤ 20 * (to - at)
+      by (Fault e) p again = omega arith
+      by (Chunk kind end) p again =
+          let i = child-in depth to at kind end d w p in
+          let line = chunkLine depth at kind (end - at) in
+          let opened = pick (opens kind parent) (inner at end kind) [] in
+          let o = opened-by inner s (opens kind parent) depth to at kind end w i in
+          omega (arith, again end (i .within), length-append line (opened ++ rest end), length-append opened (rest end))
+
+  inside-by : (levels depth : ℕ) → depth + levels ≤ 8 → Short (inside levels b depth)
+  unfolding inside Short
+  inside-by zero depth h at end kind i w = omega arith
+  inside-by (suc levels) depth h at end kind i w = by (ltb (end - at) (headBytes kind)) refl (inside-by levels (depth + 1) (omega arith))
+    where
+      children : List ℕ
+      children = childrenBy (inside levels b (depth + 1)) b (depth + 1) kind end (countAt b at kind) (at + headBytes kind)
+
+      by : (t : Bool) → ltb (end - at) (headBytes kind) ≡ t → Short (inside levels b (depth + 1)) → 6 * length (pick t [] children) ≤ 20 * (end - at - 6)
+      by true p s = omega arith
+      by false p s =
+          let l = ltb-false (end - at) (headBytes kind) p in
+          let k = head-bytes-in kind in
+          let c = children-by (inside levels b (depth + 1)) s (depth + 1) kind end (countAt b at kind) (at + headBytes kind) (omega arith) (omega arith) w in
+          omega arith
+
+  module _ (depth : ℕ) (shallow : depth ≤ 8) where
+    pub opened-short : (t : Bool) (to at kind end : ℕ) → to ≤ length b → Child depth to at kind end
+        → 6 * length (pick t (containerOf b depth at end kind) []) ≤ 20 * (end - at - 6)
+    opened-short t to at kind end w i = opened-by (inside (8 - depth) b depth) (inside-by (8 - depth) depth (omega arith)) t depth to at kind end w i
+
+    pub children-short : (parent to count at : ℕ) → at ≤ to → to ≤ length b → 6 * length (childrenOf b depth parent to count at) ≤ 20 * (to - at)
+    children-short parent to count at h w =
+        children-by (inside (8 - depth) b depth) (inside-by (8 - depth) depth (omega arith)) depth parent to count at shallow h w
+
+-- a whole reel
+
+-- m: the length of the part that is the reel
+pub listed-in : (b : List ℕ) (w h frames size m : ℕ) → length b ≤ 65536 → ReelIn b w h frames size → m ≡ size → Listed (take m b) w h frames
+listed-in b w h frames size m few i k =
+    let n = length-take-le m b (omega (arith, i .most)) in
+    record { long = omega (arith, i .least); short = omega (arith, i .most); sized = i .sized; few = i .few-frames }
+
+pub listed-head : (b : List ℕ) (w h frames : ℕ) → Listed b w h frames → length (headLine w h frames) ≤ 18
+listed-head b w h frames l =
+    let s = size-in w h (l .sized) in
+    head-short w h frames (omega (arith, s .1)) (omega (arith, s .3)) (omega (arith, l .few))
+
+pub reel-short : (b : List ℕ) → ((i : ℕ) → getD b i 0 < 256) → (w h frames end n : ℕ) → Listed b w h frames → 128 ≤ end → end ≤ length b
+    → length (headLine w h frames) + length (childrenOf b 0 0 end n 128) + 3 ≤ 218047
+reel-short b bytes w h frames end n l least most =
+    omega (arith, l .short, listed-head b w h frames l, children-short b bytes (l .short) 0 (omega arith) 0 end n 128 least most)
+
+-- a refused line: its place lies within the reel
+
+number-small : (e : Refusal) → number e < 100
+number-small ShortSlice = omega arith
+number-small BadSize = omega arith
+number-small NoRoom = omega arith
+number-small Cut = omega arith
+number-small WrongType = omega arith
+number-small SmallSize = omega arith
+number-small BodyEnds = omega arith
+number-small ZeroCount = omega arith
+number-small PastWidth = omega arith
+number-small PastHeight = omega arith
+number-small BadWord = omega arith
+number-small PastPalette = omega arith
+number-small OverLevel = omega arith
+number-small BadHeader = omega arith
+number-small FewFrames = omega arith
+number-small BadRing = omega arith
+number-small BadTrailer = omega arith
+number-small WrongTime = omega arith
+
+pub refusal-short : (e : Refusal) (place : ℕ) → place ≤ 65536 → length (refusedLine (number e) place) ≤ 17
+refusal-short e place h = refused-short (number e) place (number-small e) (omega arith)
+
+abbrev PlaceIn : List ℕ → Next → Type 0
+PlaceIn b (next.Fault e place) = place ≤ length b
+PlaceIn b (next.Frame from end) = Unit {0}
+
+framed-place : (b : List ℕ) (at : ℕ) (f : FrameHeader) → at ≤ length b → PlaceIn b (framed at f)
+framed-place b at (whole.Fault e) h = h
+framed-place b at (whole.Frame count size) h = tt
+
+within-place : (n : ℕ) (b : List ℕ) (at : ℕ) → at ≤ length b → PlaceIn b (within n b at)
+unfolding within packedAt
+within-place zero b at h = h
+within-place (suc n) b at h =
+    by (leb (at + 6) (length b)) (eqb (u16At b (at + 4)) FRAME-TYPE) (headerAt b at) (header-in b at _ refl) (λ end i. within-place n b end i)
+  where
+    by : (t f : Bool) (x : Header) → HeaderIn b at x → ((end : ℕ) → end ≤ length b → PlaceIn b (within n b end))
+        → PlaceIn b (pick t (pick f (packedAt b at) (steppedOver at x (λ end. within n b end))) (next.Fault FewFrames at))
+    by false f x i rest = h
+    by true true x i rest = framed-place b at (frameHeader (drop at b)) h
+    by true false (Fault e) i rest = h
+    by true false (Chunk kind end) i rest = rest end (i .1)
+
+abbrev AnswerIn : List ℕ → Answer → Type 0
+AnswerIn b Done = Unit {0}
+AnswerIn b (Refused e place) = place ≤ length b
+
+frames-place : (n : ℕ) (b : List ℕ) (at : ℕ) → at ≤ length b → AnswerIn b (topFrames b n at .answer)
+unfolding topFrames nextAt
+frames-place zero b at h = tt
+frames-place (suc n) b at h = by (nextAt b at) (within-place (length b) b at h) (step-in false b at h _ refl) (λ end i. frames-place n b end i)
+  where
+    by : (x : Next) → PlaceIn b x → NextIn b at x → ((end : ℕ) → end ≤ length b → AnswerIn b (topFrames b n end .answer))
+        → AnswerIn b (afterNext x (λ end. topFrames b n end) .answer)
+    by (next.Fault e place) i j rest = i
+    by (next.Frame from end) i j rest = rest end (j .2)
+
+pub frames-refused : (b : List ℕ) (n at : ℕ) → at ≤ length b → (e : Refusal) (place : ℕ) → topFrames b n at .answer ≡ Refused e place → place ≤ length b
+frames-refused b n at h e place p = subst (AnswerIn b) p (frames-place n b at h)
+
+-- the whole listing
+
+walked-short : (b : List ℕ) → Bytes b → (w h frames : ℕ) → Listed b w h frames → (a : Answer) → AnswerIn b a → length (walkLines b w h frames a) ≤ 218047
+walked-short b bytes w h frames l Done i =
+    let end = ringEnd b (frames + 1) 128 in
+    let j = ring-in b (frames + 1) 128 (l .long) end refl in
+    let e = chunk-lines-are b frames end (length b) refl refl in
+    omega (
+      arith,
+      reel-short b (λ k. bytes-getD b k bytes) w h frames end (length b) l (j .0) (j .1),
+      ap length e,
+      length-append (headLine w h frames) (chunkLines b frames ++ okLine),
+      length-append (chunkLines b frames) okLine,
+    )
+walked-short b bytes w h frames l (Refused e place) i = omega (arith, refusal-short e place (omega (arith, l .short)))
+
+headed-short : (b : List ℕ) → Bytes b → length b ≤ 65536 → (x : Head) → HeadIn b x → length (headLines b x) ≤ 218047
+headed-short b bytes few (head.Fault e) i = omega (arith, refusal-short e 0 (omega arith))
+headed-short b bytes few (head.Reel w h frames size) i =
+    let l = listed-in b w h frames size size few i refl in
+    walked-short (take size b) (bytes-take size b bytes) w h frames l (topFrames (take size b) (suc frames) 128 .answer) (frames-place (suc frames) (take size b) 128 (l .long))
+
+-- a listing of bytes fits into 218,047
+pub listing-short : (b : List ℕ) → Bytes b → length (listing b) ≤ 218047
+listing-short b bytes = by (leb (length b) 65536) refl
+  where
+    by : (t : Bool) → leb (length b) 65536 ≡ t → length (listing b) ≤ 218047
+    by true p = let few = leb-true (length b) 65536 p in omega (arith, ap length (listing-head b few _ refl), headed-short b bytes few (headOf b) (head-in b _ refl))
+    by false p = omega (arith, ap length (listing-long b (leb-false (length b) 65536 p)), refusal-short NoRoom 0 (omega arith))

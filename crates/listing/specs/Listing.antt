@@ -1,0 +1,103 @@
+-- The listing of a reel (document 01, "Reels and the trailer", third paragraph): its text.
+use Prim.Native.Nat.{ℕ, zero, suc, _+_, _-_}
+use mathlib.Core.List.{List, [], _++_}
+use mathlib.Core.Bool.{Bool, not, true}
+use lib.Dec.{leb, ltb, eqb}
+use lib.ListN.{length, take}
+use Rattle.words.specs.Words.{pick, u16At}
+use Rattle.answer.specs.Answer.{number}
+use Rattle.answer.specs.Format.{FRAME-TYPE, PREFIX-TYPE, FLI-PSTAMP}
+use Rattle.answer.specs.declared.Refusal.the-variants.{NoRoom}
+use Rattle.answer.specs.declared.Answer.{Answer}
+use Rattle.answer.specs.declared.Answer.the-variants.{Done, Refused}
+use Rattle.frame.specs.Frame.{headerAt}
+use Rattle.frame.specs.declared.Header.{Header}
+use Rattle.frame.specs.declared.Header.the-variants as chunk
+use Rattle.house.specs.Writing.{Output, fitted}
+use Rattle.walk.specs.Head.{headOf}
+use Rattle.walk.specs.Walk.{nextAt}
+use Rattle.walk.specs.declared.Head.{Head}
+use Rattle.walk.specs.declared.Head.the-variants as head
+use Rattle.walk.specs.declared.Next.{Next}
+use Rattle.walk.specs.declared.Next.the-variants.{Fault, Frame}
+use Rattle.trailer.specs.Trailer.{topFrames}
+use Rattle.text.specs.Text.{headLine, chunkLine, okLine, refusedLine}
+
+-- "Chunks of kind 61696 and 61946 hold children after 16 bytes, as many as their count; kind 18 holds one after 12"
+abbrev pub headBytes : ℕ → ℕ
+headBytes kind = pick (eqb kind FLI-PSTAMP) 12 16
+
+unfoldable pub countAt : List ℕ → ℕ → ℕ → ℕ
+countAt b at kind = pick (eqb kind FLI-PSTAMP) 1 (u16At b (at + 6))
+
+-- "a child of one of these kinds is opened in its turn .. but an 18 directly inside an 18 is a colour table and stays shut"
+unfoldable pub opens : ℕ → ℕ → Bool
+opens kind parent = pick (eqb kind FLI-PSTAMP) (not (eqb parent FLI-PSTAMP)) (pick (eqb kind PREFIX-TYPE) true (eqb kind FRAME-TYPE))
+
+-- a child at offset at of b, which ends where its container does, and then the rest: "stops at the first child that doesn't fit (header not whole,
+-- size under 6 or past the container)"; inside: what is listed of a child that is opened
+abbrev pub afterChild : (ℕ → ℕ → ℕ → List ℕ) → ℕ → ℕ → ℕ → Header → (ℕ → List ℕ) → List ℕ
+afterChild inside depth parent at (chunk.Fault e) rest = []
+afterChild inside depth parent at (chunk.Chunk kind end) rest =
+    chunkLine depth at kind (end - at) ++ (pick (opens kind parent) (inside at end kind) [] ++ rest end)
+
+-- at most count children from offset at on, up to offset to
+unfoldable pub childrenBy : (ℕ → ℕ → ℕ → List ℕ) → List ℕ → ℕ → ℕ → ℕ → ℕ → ℕ → List ℕ
+unfolding headerAt opens chunkLine
+childrenBy inside b depth parent to zero at = []
+childrenBy inside b depth parent to (suc count) at =
+    afterChild inside depth parent at (headerAt (take to b) at) (λ end. childrenBy inside b depth parent to count end)
+
+-- what is inside the container from offset at to offset end, at this depth, with so many levels below it;
+-- "one shorter than its 16 or 12 bytes lists none"
+unfoldable pub inside : ℕ → List ℕ → ℕ → ℕ → ℕ → ℕ → List ℕ
+unfolding childrenBy countAt
+inside zero b depth at end kind = []
+inside (suc levels) b depth at end kind =
+    pick (ltb (end - at) (headBytes kind)) []
+    (childrenBy (inside levels b (depth + 1)) b (depth + 1) kind end (countAt b at kind) (at + headBytes kind))
+
+-- "no line passing depth 8"
+abbrev pub containerOf : List ℕ → ℕ → ℕ → ℕ → ℕ → List ℕ
+containerOf b depth = inside (8 - depth) b depth
+
+abbrev pub childrenOf : List ℕ → ℕ → ℕ → ℕ → ℕ → ℕ → List ℕ
+childrenOf b depth = childrenBy (inside (8 - depth) b depth) b depth
+
+-- where the last of count frames from offset at on ends
+abbrev pub afterFrame : ℕ → Next → (ℕ → ℕ) → ℕ
+afterFrame at (Fault e place) rest = at
+afterFrame at (Frame from end) rest = rest end
+
+unfoldable pub ringEnd : List ℕ → ℕ → ℕ → ℕ
+unfolding nextAt
+ringEnd b zero at = at
+ringEnd b (suc count) at = afterFrame at (nextAt b at) (λ end. ringEnd b count end)
+
+-- "It lists up to the ring": all top-level chunks of the reel b (no more than its bytes) that end where the ring does or before
+unfoldable pub chunkLines : List ℕ → ℕ → List ℕ
+unfolding childrenBy inside ringEnd
+chunkLines b frames = childrenOf b 0 0 (ringEnd b (suc frames) 128) (length b) 128
+
+abbrev pub walkLines : List ℕ → ℕ → ℕ → ℕ → Answer → List ℕ
+walkLines b w h frames Done = headLine w h frames ++ (chunkLines b frames ++ okLine)
+walkLines b w h frames (Refused e place) = refusedLine (number e) place
+
+-- "either one line `refused N PLACE`, or the header line (width, height, frames), one line a chunk .. and `ok`"; "the other refusals are the trailer
+-- walk's, the trailer itself unread"
+abbrev pub headLines : List ℕ → Head → List ℕ
+headLines b (head.Fault e) = refusedLine (number e) 0
+headLines b (head.Reel w h frames size) = walkLines (take size b) w h frames (topFrames (take size b) (suc frames) 128 .answer)
+
+-- "reads up to 65,536 bytes .. Input past that is refused 3, place 0"
+abbrev pub LIST-INPUT : ℕ
+LIST-INPUT = 65536
+
+unfoldable pub listing : List ℕ → List ℕ
+unfolding headLine refusedLine chunkLines headOf topFrames
+listing b = pick (leb (length b) LIST-INPUT) (headLines b (headOf b)) (refusedLine (number NoRoom) 0)
+
+-- the text at the front of the output and its rest unchanged, or refusal 3 where the output is shorter than the text
+unfoldable pub list : List ℕ → List ℕ → Output
+unfolding listing
+list b out = fitted (listing b) out

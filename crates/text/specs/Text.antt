@@ -1,0 +1,48 @@
+-- Numbers and lines as text: bytes of ASCII.
+use Prim.Native.Nat.{ℕ, zero, suc, _+_, _/_, _%_}
+use mathlib.Core.List.{List, [], _∷_, _++_}
+use lib.Dec.{ltb}
+use Rattle.words.specs.Words.{pick}
+
+abbrev pub SPACE : ℕ
+SPACE = 32
+
+abbrev pub NEWLINE : ℕ
+NEWLINE = 10
+
+-- the last digit of n; '0' is 48
+abbrev pub digit : ℕ → ℕ
+digit n = 48 + n % 10
+
+-- n in decimal, of at most so many digits and one
+unfoldable pub digits : ℕ → ℕ → List ℕ
+digits zero n = digit n ∷ []
+digits (suc more) n = pick (ltb n 10) (digit n ∷ []) (digits more (n / 10) ++ (digit n ∷ []))
+
+-- n in decimal; it has no more digits than n and one
+unfoldable pub decimal : ℕ → List ℕ
+unfolding digits
+decimal n = digits n n
+
+-- n, and the byte behind it
+abbrev pub numeral : ℕ → ℕ → List ℕ
+numeral n behind = decimal n ++ (behind ∷ [])
+
+-- `flic WIDTH HEIGHT FRAMES`
+unfoldable pub headLine : ℕ → ℕ → ℕ → List ℕ
+unfolding decimal
+headLine w h frames = 102 ∷ 108 ∷ 105 ∷ 99 ∷ SPACE ∷ (numeral w SPACE ++ (numeral h SPACE ++ numeral frames NEWLINE))
+
+-- `DEPTH OFFSET KIND SIZE`
+unfoldable pub chunkLine : ℕ → ℕ → ℕ → ℕ → List ℕ
+unfolding decimal
+chunkLine depth at kind size = numeral depth SPACE ++ (numeral at SPACE ++ (numeral kind SPACE ++ numeral size NEWLINE))
+
+-- `ok`
+abbrev pub okLine : List ℕ
+okLine = 111 ∷ 107 ∷ NEWLINE ∷ []
+
+-- `refused N PLACE`
+unfoldable pub refusedLine : ℕ → ℕ → List ℕ
+unfolding decimal
+refusedLine n place = 114 ∷ 101 ∷ 102 ∷ 117 ∷ 115 ∷ 101 ∷ 100 ∷ SPACE ∷ (numeral n SPACE ++ numeral place NEWLINE)

@@ -1,0 +1,285 @@
+-- Laws of the walk over frame chunks, of the index and the trailer, and of checking and writing them, by the order of their checks.
+use mathlib.Core.Path.{_≡_, refl, sym, ap, ap₂, _∙_}
+use mathlib.Core.List.{List, [], _∷_, _++_, append-nil}
+use mathlib.Core.Bool.{Bool, true, false}
+use Prim.Native.Nat.{ℕ, zero, suc, _+_, _-_, _*_, _≤_, _<_}
+use native.Mathlib.Nat.{not-suc-le-zero, zero-add}
+use native.Mathlib.Numerals.{sub-one}
+use native.Mathlib.Omega.{arith}
+use borrow.Author.Tests.{eq-eqb, ne-eqb, le-leb, lt-leb}
+use lib.ListN.{length, take, drop, getD, replicate, length-append, length-drop, length-replicate, drop-of-length-le}
+use lib.Seq.{length-take-le, take-all, take-at, drop-drop}
+use Rattle.words.specs.Words.{pick, part, le16, le32, same}
+use Rattle.words.specs.Writes.{put}
+use Rattle.words.proofs.Laws.{put-front, length-put, span-length, span-back, put-nil, put-append, put-then, same-eq}
+use Rattle.answer.specs.Answer.{told, done, maxFrames}
+use Rattle.answer.specs.declared.Refusal.{Refusal}
+use Rattle.answer.specs.declared.Refusal.the-variants.{NoRoom, BadTrailer}
+use Rattle.answer.specs.declared.Answer.{Answer}
+use Rattle.answer.specs.declared.Answer.the-variants.{Done, Refused}
+use Rattle.answer.specs.declared.Written.the-variants as written
+use Rattle.house.specs.Writing.{output}
+use Rattle.walk.specs.Head.{headOf}
+use Rattle.walk.specs.Walk.{nextAt}
+use Rattle.walk.specs.declared.Head.{Head}
+use Rattle.walk.specs.declared.Head.the-variants as head
+use Rattle.walk.specs.declared.Next.{Next}
+use Rattle.walk.specs.declared.Next.the-variants.{Fault, Frame}
+use Rattle.walk.proofs.Laws.{NextIn, step-in, head-in}
+use Rattle.trailer.specs.Trailer.{Found, found, afterNext, topFrames, index, trailerOf, judged, walked, checkedAfter, checkTrailer, storedIf, writtenAfter, writeTrailer, Walked, padded}
+
+-- the walk over frame chunks
+
+module _ (b : List ℕ) (count at : ℕ) where
+  pub found-none : count ≤ 0 → topFrames b count at ≡ found [] Done
+  unfolding topFrames
+  found-none i = go count i
+    where
+      go : (n : ℕ) → n ≤ 0 → topFrames b n at ≡ found [] Done
+      go zero i = refl
+      go (suc n) i = absurd (not-suc-le-zero i)
+
+  module _ (some : 0 < count) where
+    found-step : (x : Next) → nextAt b at ≡ x → topFrames b count at ≡ afterNext x (λ end. topFrames b (count - 1) end)
+    unfolding topFrames
+    found-step x q = go count some ∙ ap (λ (y : Next). afterNext y (λ end. topFrames b (count - 1) end)) q
+      where
+        go : (n : ℕ) → 0 < n → topFrames b n at ≡ afterNext (nextAt b at) (λ end. topFrames b (n - 1) end)
+        go zero i = absurd (not-suc-le-zero i)
+        go (suc n) i = ap (λ (k : ℕ). afterNext (nextAt b at) (λ end. topFrames b k end)) (sym (sub-one (suc n)))
+
+    pub found-fault : (e : Refusal) (place : ℕ) → nextAt b at ≡ Fault e place → topFrames b count at ≡ found [] (Refused e place)
+    found-fault e place q = found-step (Fault e place) q
+
+    pub found-more : (from end : ℕ) → nextAt b at ≡ Frame from end
+        → topFrames b count at ≡ found (from ∷ topFrames b (count - 1) end .offsets) (topFrames b (count - 1) end .answer)
+    found-more from end q = found-step (Frame from end) q
+
+-- where all were met, there are as many offsets as frames asked for
+pub found-many : (b : List ℕ) (count at : ℕ) → topFrames b count at .answer ≡ Done → length (topFrames b count at .offsets) ≡ count
+unfolding topFrames
+found-many b zero at q = refl
+found-many b (suc count) at q = go (nextAt b at) q (λ end r. found-many b count end r)
+  where
+    go : (x : Next) → afterNext x (λ end. topFrames b count end) .answer ≡ Done
+        → ((end : ℕ) → topFrames b count end .answer ≡ Done → length (topFrames b count end .offsets) ≡ count)
+        → length (afterNext x (λ end. topFrames b count end) .offsets) ≡ suc count
+    go (Fault e place) q rest = let z : _≡_ {A = ℕ} 0 1 = cc in absurd (omega arith)
+    go (Frame from end) q rest = ap suc (rest end q)
+
+-- each offset lies within b
+pub found-in : (b : List ℕ) (count at i : ℕ) → at ≤ length b → getD (topFrames b count at .offsets) i 0 ≤ length b
+unfolding topFrames
+found-in b zero at i h = omega arith
+found-in b (suc count) at i h = go (nextAt b at) i (step-in false b at h _ refl) (λ end j k. found-in b count end j k)
+  where
+    go : (x : Next) (i : ℕ) → NextIn b at x → ((end j : ℕ) → end ≤ length b → getD (topFrames b count end .offsets) j 0 ≤ length b)
+        → getD (afterNext x (λ end. topFrames b count end) .offsets) i 0 ≤ length b
+    go (Fault e place) i n rest = omega arith
+    go (Frame from end) zero n rest = omega (arith, n .1, n .2)
+    go (Frame from end) (suc i) n rest = rest end i (n .2)
+
+-- the index
+
+pub index-length : (os : List ℕ) → length (index os) ≡ 4 * length os
+unfolding index
+index-length [] = refl
+index-length (o ∷ os) = omega (arith, index-length os)
+
+-- the index stored entry by entry: nothing left, one entry more
+module _ (d : List ℕ) (to : ℕ) where
+  pub index-none : (os : List ℕ) → os ≡ [] → put d to (index os) ≡ d
+  unfolding index
+  index-none os e = ap (λ (x : List ℕ). put d to (index x)) e ∙ put-nil d to
+
+  pub index-more : (os rest e : List ℕ) (o : ℕ) → os ≡ o ∷ rest → to + 4 ≤ length d → e ≡ put d to (le32 o []) → put d to (index os) ≡ put e (to + 4) (index rest)
+  unfolding index
+  index-more os rest e o q h s =
+      ap (λ (x : List ℕ). put d to (index x)) q ∙ put-append d to (le32 o []) (index rest) 4 refl h ∙ ap (λ (x : List ℕ). put x (to + 4) (index rest)) (sym s)
+
+-- the entry of one frame, and the entries behind it
+pub index-entry : (os more : List ℕ) (i : ℕ) → i < length os → drop (4 * i) (index os ++ more) ≡ le32 (getD os i 0) (index (drop (suc i) os) ++ more)
+unfolding index
+index-entry [] more i h = absurd (not-suc-le-zero h)
+index-entry (o ∷ os) more zero h = refl
+index-entry (o ∷ os) more (suc i) h =
+    let k : 4 * suc i ≡ 4 + 4 * i = omega arith in
+    ap (λ (n : ℕ). drop n (le32 o (index os ++ more))) k ∙ sym (drop-drop (4 * i) 4 (le32 o (index os ++ more))) ∙ index-entry os more i (omega arith)
+
+-- the trailer
+
+pub trailer-length : (os : List ℕ) → length (trailerOf os) ≡ 4 * length os + 8
+unfolding trailerOf
+trailer-length os =
+    length-append (index os) (le32 (4 * length os + 8) (le16 (length os) (le16 1 []))) ∙ ap (λ (n : ℕ). n + 8) (index-length os)
+
+-- where all of count frames were met
+pub trailer-many : (b : List ℕ) (count : ℕ) → topFrames b count 128 .answer ≡ Done → length (trailerOf (topFrames b count 128 .offsets)) ≡ 4 * count + 8
+trailer-many b count m = trailer-length (topFrames b count 128 .offsets) ∙ ap (λ (n : ℕ). 4 * n + 8) (found-many b count 128 m)
+
+trailer-counted : (os : List ℕ) (count : ℕ) → length os ≡ count → index os ++ le32 (4 * count + 8) (le16 count (le16 1 [])) ≡ trailerOf os
+unfolding trailerOf
+trailer-counted os count e = ap (λ (n : ℕ). index os ++ le32 (4 * n + 8) (le16 n (le16 1 []))) (sym e)
+
+-- the buffer
+
+zeros-behind : (m n : ℕ) → drop {A = ℕ} n (replicate m 0) ≡ replicate (m - n) 0
+zeros-behind m zero = let k : m - 0 ≡ m = omega arith in rw k
+zeros-behind zero (suc n) = let k : 0 - suc n ≡ 0 = omega arith in rw k
+zeros-behind (suc m) (suc n) = let k : suc m - suc n ≡ m - n = omega arith in rw k (zeros-behind m n)
+
+zeros-stored : (m : ℕ) (t : List ℕ) → put (replicate m 0) 0 t ≡ t ++ replicate (m - length t) 0
+zeros-stored m t = put-front (replicate m 0) t ∙ ap (λ (x : List ℕ). t ++ x) (zeros-behind m (length t))
+
+-- t stored at the front of the zeros
+pub padded-stored : (t : List ℕ) → put (padded []) 0 t ≡ padded t
+unfolding padded
+padded-stored t = zeros-stored 16012 t
+
+pub padded-length : (t : List ℕ) → length t ≤ 16012 → length (padded t) ≡ 16012
+unfolding padded
+padded-length t h = length-append t (replicate (16012 - length t) 0) ∙ ap (λ (n : ℕ). length t + n) (length-replicate {A = ℕ} (16012 - length t) 0) ∙ omega arith
+
+pub padded-front : (t x : List ℕ) (n : ℕ) → x ≡ padded t → length t ≡ n → take n x ≡ t
+unfolding padded
+padded-front t x n e l = ap (take n) e ∙ take-at t (replicate (16012 - length t) 0) n l
+
+-- a lent part that was filled
+
+put-whole : (d v : List ℕ) → length v ≡ length d → put d 0 v ≡ v
+put-whole d v l = put-front d v ∙ ap (λ (x : List ℕ). v ++ x) (drop-of-length-le d {i = length v} (omega arith)) ∙ append-nil v
+
+-- d, of which the part a..e came back as x
+abbrev pub back : List ℕ → ℕ → ℕ → List ℕ → List ℕ
+back d a e x = take a d ++ (x ++ drop (e - a) (drop a d))
+
+pub back-length : (d x : List ℕ) (a e : ℕ) → a ≤ e → e ≤ length d → length x ≡ length (part d a e) → length (back d a e x) ≡ length d
+back-length d x a e h k l =
+    simp (length-append, length-take-le a d (omega arith), length-drop) (omega (arith, span-length d a e (e - a) k (omega arith)))
+
+pub back-filled : (d x v : List ℕ) (a e n : ℕ) → e ≤ length d → length v ≡ n → a + n ≡ e → x ≡ put (part d a e) 0 v → back d a e x ≡ put d a v
+back-filled d x v a e n h l k q = span-back d x v a e n (q ∙ put-whole (part d a e) v (l ∙ sym (span-length d a e n h k))) l k
+
+-- index, distance, entries and edition stored in four parts of the zeros d, that came back as x₁ to x₄
+module _ (os : List ℕ) (count : ℕ) (d x₁ x₂ x₃ x₄ : List ℕ) where
+  abbrev first : List ℕ
+  first = back d 0 (4 * count) x₁
+
+  abbrev second : List ℕ
+  second = back first (4 * count) (4 * count + 4) x₂
+
+  abbrev third : List ℕ
+  third = back second (4 * count + 4) (4 * count + 6) x₃
+
+  abbrev fourth : List ℕ
+  fourth = back third (4 * count + 6) (4 * count + 8) x₄
+
+  pub trailer-stored : length os ≡ count → count ≤ suc maxFrames → d ≡ padded [] → x₁ ≡ put (part d 0 (4 * count)) 0 (index os)
+      → x₂ ≡ put (part first (4 * count) (4 * count + 4)) 0 (le32 (4 * count + 8) [])
+      → x₃ ≡ put (part second (4 * count + 4) (4 * count + 6)) 0 (le16 count [])
+      → x₄ ≡ put (part third (4 * count + 6) (4 * count + 8)) 0 (le16 1 [])
+      → fourth ≡ padded (trailerOf os)
+  trailer-stored many few e q₁ q₂ q₃ q₄ =
+      let at = 4 * count in
+      let distance = le32 (4 * count + 8) [] in
+      let entries = le16 count [] in
+      let li : length (index os) ≡ at = index-length os ∙ ap (λ (n : ℕ). 4 * n) many in
+      let l₀ : length d ≡ 16012 = ap length e ∙ padded-length [] (omega arith) in
+      let p₁ : first ≡ put d 0 (index os) = back-filled d x₁ (index os) 0 at at (omega arith) li (zero-add at) q₁ in
+      let l₁ : length first ≡ 16012 = ap length p₁ ∙ length-put d 0 (index os) (omega arith) ∙ l₀ in
+      let p₂ : second ≡ put first at distance = back-filled first x₂ distance at (at + 4) 4 (omega arith) refl refl q₂ in
+      let l₂ : length second ≡ 16012 = ap length p₂ ∙ length-put first at distance (omega arith) ∙ l₁ in
+      let p₃ : third ≡ put second (at + 4) entries = back-filled second x₃ entries (at + 4) (at + 6) 2 (omega arith) refl (omega arith) q₃ in
+      let l₃ : length third ≡ 16012 = ap length p₃ ∙ length-put second (at + 4) entries (omega arith) ∙ l₂ in
+      let p₄ : fourth ≡ put third (at + 6) (le16 1 []) = back-filled third x₄ (le16 1 []) (at + 6) (at + 8) 2 (omega arith) refl (omega arith) q₄ in
+      let r₃ = put-then first second third distance entries at 4 refl (omega arith) p₂ p₃ in
+      let r₄ = put-then first third fourth (distance ++ entries) (le16 1 []) at 6 refl (omega arith) r₃ p₄ in
+      let tail = (distance ++ entries) ++ le16 1 [] in
+      let r = put-then d first fourth (index os) tail 0 at li (omega arith) p₁ (r₄ ∙ ap (λ (k : ℕ). put first k tail) (sym (zero-add at))) in
+      r ∙ ap₂ (λ (x t : List ℕ). put x 0 t) e (trailer-counted os count many) ∙ padded-stored (trailerOf os)
+
+-- lists of other lengths are not the same
+
+pub same-other : (a b : List ℕ) → (length a ≡ length b → ⊥) → same a b ≡ false
+same-other a b h = go (same a b) refl
+  where
+    go : (t : Bool) → same a b ≡ t → t ≡ false
+    go true e = absurd (h (ap length (same-eq a b e)))
+    go false e = refl
+
+-- what a reel's header leads to; n and m: the length of the range up to size, and the number of frames with the ring, as the code has them
+
+module _ (b : List ℕ) (w h frames size : ℕ) (k : headOf b ≡ head.Reel w h frames size) (n m : ℕ) (en : n ≡ size) (em : m ≡ suc frames) where
+  walked-as : walked b frames size ≡ topFrames (take n b) m 128
+  walked-as = sym (ap₂ (λ (x y : ℕ). topFrames (take x b) y 128) en em)
+
+  pub walked-long : 128 ≤ length (take n b)
+  walked-long = let i = head-in b _ k in omega (arith, i .least, length-take-le n b (omega (arith, i .most)))
+
+  pub walked-in : topFrames (take n b) m 128 .answer ≡ Done → Walked (take n b) m
+  walked-in q = record { long = walked-long; few = omega (arith, head-in b _ k .few-frames); met = q }
+
+  -- the check
+
+  checked-judged : (a : Answer) → topFrames (take n b) m 128 .answer ≡ a → checkTrailer b ≡ told (judged (drop size b) (topFrames (take n b) m 128) a)
+  unfolding checkTrailer
+  checked-judged a q =
+      ap (λ (x : Head). told (checkedAfter b x)) k
+      ∙ ap (λ (f : Found). told (judged (drop size b) f (f .answer))) walked-as
+      ∙ ap (λ (x : Answer). told (judged (drop size b) (topFrames (take n b) m 128) x)) q
+
+  pub checked-refused : (e : Refusal) (place : ℕ) → topFrames (take n b) m 128 .answer ≡ Refused e place → checkTrailer b ≡ told (Refused e place)
+  checked-refused e place q = checked-judged (Refused e place) q
+
+  module _ (q : topFrames (take n b) m 128 .answer ≡ Done) where
+    pub checked-bare : length b ≡ size → checkTrailer b ≡ done []
+    checked-bare l = checked-judged Done q ∙ simp (eq-eqb (length (drop size b)) 0 (simp length-drop (omega arith)))
+
+    -- r: whether what follows the size, l bytes, is the trailer; found to be t
+    pub checked-compared : size < length b → (l : ℕ) → l ≡ length b - size → (r t : Bool)
+        → r ≡ same (take l (drop size b)) (trailerOf (topFrames (take n b) m 128 .offsets)) → r ≡ t → checkTrailer b ≡ told (pick t Done (Refused BadTrailer 0))
+    checked-compared s l el r t e f =
+        let g : same (drop size b) (trailerOf (topFrames (take n b) m 128 .offsets)) ≡ t =
+        ap (λ (x : List ℕ). same x (trailerOf (topFrames (take n b) m 128 .offsets))) (sym (take-all l (drop size b) (simp length-drop (omega arith)))) ∙ sym e ∙ f in
+        checked-judged Done q ∙ simp (ne-eqb (length (drop size b)) 0 (λ z. omega (arith, length-drop size b)), g)
+
+  -- writing
+
+  wrote-if : (a : Answer) → topFrames (take n b) m 128 .answer ≡ a → writeTrailer b ≡ storedIf size b (topFrames (take n b) m 128) a
+  unfolding writeTrailer
+  wrote-if a q =
+      ap (writtenAfter b) k
+      ∙ ap (λ (f : Found). storedIf size b f (f .answer)) walked-as
+      ∙ ap (storedIf size b (topFrames (take n b) m 128)) q
+
+  pub wrote-refused : (e : Refusal) (place : ℕ) → topFrames (take n b) m 128 .answer ≡ Refused e place → writeTrailer b ≡ output (written.Refused e place) b
+  wrote-refused e place q = wrote-if (Refused e place) q
+
+  -- l: the trailer's length
+  module _ (q : topFrames (take n b) m 128 .answer ≡ Done) (l : ℕ) (el : length (trailerOf (topFrames (take n b) m 128 .offsets)) ≡ l) where
+    pub wrote-short : length b < size + l → writeTrailer b ≡ output (written.Refused NoRoom 0) b
+    wrote-short s = wrote-if Done q ∙ simp (lt-leb (size + length (trailerOf (topFrames (take n b) m 128 .offsets))) (length b) (omega arith))
+
+    pub wrote-done : size + l ≤ length b → writeTrailer b ≡ output (written.Done (size + l)) (put b size (trailerOf (topFrames (take n b) m 128 .offsets)))
+    wrote-done s =
+        wrote-if Done q
+        ∙ simp (le-leb (size + length (trailerOf (topFrames (take n b) m 128 .offsets))) (length b) (omega arith))
+        (ap (λ (x : ℕ). output (written.Done (size + x)) (put b size (trailerOf (topFrames (take n b) m 128 .offsets)))) el)
+
+    -- x: what the part behind the size comes back as, y: the buffer
+    pub wrote-back : size + l ≤ length b → (x y : List ℕ) (j : ℕ) → j ≡ l → y ≡ padded (trailerOf (topFrames (take n b) m 128 .offsets)) → x ≡ take j y
+        → output (written.Done (size + l)) (back b size (size + l) x) ≡ writeTrailer b
+    wrote-back s x y j ej ey ex =
+        let t = trailerOf (topFrames (take n b) m 128 .offsets) in
+        ap (output (written.Done (size + l))) (span-back b x t size (size + l) l (ex ∙ padded-front t y j ey (el ∙ sym ej)) el refl) ∙ sym (wrote-done s)
+
+-- a header with a fault
+
+module _ (b : List ℕ) (e : Refusal) (k : headOf b ≡ head.Fault e) where
+  pub checked-fault : checkTrailer b ≡ told (Refused e 0)
+  unfolding checkTrailer
+  checked-fault = ap (λ (x : Head). told (checkedAfter b x)) k
+
+  pub wrote-fault : writeTrailer b ≡ output (written.Refused e 0) b
+  unfolding writeTrailer
+  wrote-fault = ap (writtenAfter b) k

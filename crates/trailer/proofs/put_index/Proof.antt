@@ -1,0 +1,89 @@
+-- `put_index` meets its contract. The invariant: the whole index stored at the front of the bytes as found is the rest of the index stored behind the entries that stand there.
+use mathlib.Core.Path.{_≡_, _∙_, sym, ap, refl}
+use mathlib.Core.Bool.{false}
+use Prim.Native.Nat.{_≤_, _+_, _*_}
+use native.Mathlib.Omega.{arith}
+use borrow.Author.Needs.{needs}
+use lib.ListN.{length}
+use Rattle.words.specs.Writes.{put}
+use Rattle.walk.proofs.Laws.{step-in}
+use Rattle.trailer.specs.Trailer.{Found, topFrames, index}
+use Rattle.trailer.proofs.Laws.{found-none, found-fault, found-more, index-none, index-more}
+use Rattle.trailer.proofs.put_index.Statement.{statement}
+use Rattle.trailer.proofs.put_index.Tie as tie
+
+abbrev Inv-loop : tie.InvT-loop
+Inv-loop out₀ b count at₀ to₀ left₀ out at to left =
+    (at ≤ length b) × (length out ≡ length out₀) × (to + 4 * left ≤ length out)
+    × (put out₀ 0 (index (topFrames b count 128 .offsets)) ≡ put out to (index (topFrames b left at .offsets)))
+
+abbrev μ-loop : tie.MeasureT-loop
+μ-loop out₀ b count at₀ to₀ left₀ out at to left = left
+
+loop-holds : tie.Need-loop-holds Inv-loop μ-loop
+loop-holds c = (c .before .before .pre .0, refl, omega arith, refl)
+
+next-at-requires : tie.Need-next-at-requires Inv-loop μ-loop
+next-at-requires c κs = search needs
+
+enum-told : tie.Need-enum-told Inv-loop μ-loop
+enum-told c = search needs
+
+same-length : tie.Need-same-length Inv-loop μ-loop
+same-length c = search needs
+
+returns : tie.Need-returns Inv-loop μ-loop
+returns c =
+    let l = c .before .before .before .before .loop in
+    sym (l .inv .3 ∙ index-none (l .out) (l .to) _ (ap (λ (x : Found). x .offsets) (found-fault (c .before .before .before .before .before .before .before .args .b .now) (l .left) (l .at) (c .before .before .before .loop-test .taken) _ _ (sym (c .before .before .next-at .ensures) ∙ c .enum-told .given .1))))
+
+enum-known-from : tie.Need-enum-known-from Inv-loop μ-loop
+enum-known-from c = search needs
+
+put-u32-requires : tie.Need-put-u32-requires Inv-loop μ-loop
+put-u32-requires c κs = search needs
+
+add-to : tie.Need-add-to Inv-loop μ-loop
+add-to c = search needs
+
+sub-left : tie.Need-sub-left Inv-loop μ-loop
+sub-left c = search needs
+
+loop-less : tie.Need-loop-less Inv-loop μ-loop
+loop-less c = search needs
+
+loop-again : tie.Need-loop-again Inv-loop μ-loop
+loop-again c =
+    let l = c .before .before .before .before .before .before .before .before .before .loop in
+    let q = sym (c .before .before .before .before .before .before .before .next-at .ensures) ∙ c .before .before .before .before .before .from .given .1 in (
+      step-in false (c .before .before .before .before .before .before .before .before .before .before .before .before .args .b .now) (l .at) (l .inv .0) _ q .2,
+      search needs,
+      search needs,
+      l .inv .3 ∙ index-more (l .out) (l .to) _ _ (c .before .before .put-u32 .last .0) _ (ap (λ (x : Found). x .offsets) (found-more (c .before .before .before .before .before .before .before .before .before .before .before .before .args .b .now) (l .left) (l .at) (c .before .before .before .before .before .before .before .before .loop-test .taken) _ _ q)) (omega arith) (c .before .before .put-u32 .ensures),
+    )
+
+same-length-2 : tie.Need-same-length-2 Inv-loop μ-loop
+same-length-2 c = search needs
+
+returns-2 : tie.Need-returns-2 Inv-loop μ-loop
+returns-2 c = sym (c .before .loop .inv .3 ∙ index-none (c .before .loop .out) (c .before .loop .to) _ (ap (λ (x : Found). x .offsets) (found-none (c .before .before .before .before .args .b .now) (c .before .loop .left) (c .before .loop .at) (c .loop-test .left))))
+
+pub put-index-spec : {M : Type 1} → statement M
+put-index-spec =
+    tie.close
+    (tie.spec
+    Inv-loop
+    μ-loop
+    loop-holds
+    next-at-requires
+    enum-told
+    same-length
+    returns
+    enum-known-from
+    put-u32-requires
+    add-to
+    sub-left
+    loop-less
+    loop-again
+    same-length-2
+    returns-2)

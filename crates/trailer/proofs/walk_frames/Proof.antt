@@ -1,0 +1,65 @@
+-- `walk_frames` meets its contract. The invariant: the walk over all frames is answered as the walk over the frames left is, from where the last one ended.
+use mathlib.Core.Path.{_≡_, _∙_, sym, ap}
+use mathlib.Core.Bool.{false}
+use Prim.Native.Nat.{_≤_}
+use borrow.Author.Needs.{needs}
+use lib.ListN.{length}
+use Rattle.walk.proofs.Laws.{step-in}
+use Rattle.trailer.specs.Trailer.{Found, topFrames}
+use Rattle.trailer.proofs.Laws.{found-none, found-fault, found-more}
+use Rattle.trailer.proofs.walk_frames.Statement.{statement}
+use Rattle.trailer.proofs.walk_frames.Tie as tie
+
+abbrev Inv-loop : tie.InvT-loop
+Inv-loop b count at₀ left₀ at left = (at ≤ length b) × (topFrames b count 128 .answer ≡ topFrames b left at .answer)
+
+abbrev μ-loop : tie.MeasureT-loop
+μ-loop b count at₀ left₀ at left = left
+
+loop-holds : tie.Need-loop-holds Inv-loop μ-loop
+loop-holds c = search needs
+
+next-at-requires : tie.Need-next-at-requires Inv-loop μ-loop
+next-at-requires c κs = search needs
+
+enum-known-e : tie.Need-enum-known-e Inv-loop μ-loop
+enum-known-e c = search needs
+
+returns : tie.Need-returns Inv-loop μ-loop
+returns c =
+    let l = c .before .before .before .before .before .loop in
+    sym (l .inv .1 ∙ ap (λ (x : Found). x .answer) (found-fault (c .before .before .before .before .before .before .before .args .b .now) (l .left) (l .at) (c .before .before .before .before .loop-test .taken) _ _ (sym (c .before .before .before .next-at .ensures) ∙ c .before .e .given .1)))
+
+enum-known-end : tie.Need-enum-known-end Inv-loop μ-loop
+enum-known-end c = search needs
+
+sub-left : tie.Need-sub-left Inv-loop μ-loop
+sub-left c = search needs
+
+loop-less : tie.Need-loop-less Inv-loop μ-loop
+loop-less c = search needs
+
+loop-again : tie.Need-loop-again Inv-loop μ-loop
+loop-again c =
+    let l = c .before .before .before .before .before .loop in
+    let q = sym (c .before .before .before .next-at .ensures) ∙ c .before .end .given .1 in
+    (step-in false (c .before .before .before .before .before .before .before .args .b .now) (l .at) (l .inv .0) _ q .2, l .inv .1 ∙ ap (λ (x : Found). x .answer) (found-more (c .before .before .before .before .before .before .before .args .b .now) (l .left) (l .at) (c .before .before .before .before .loop-test .taken) _ _ q))
+
+returns-2 : tie.Need-returns-2 Inv-loop μ-loop
+returns-2 c = sym (c .before .loop .inv .1 ∙ ap (λ (x : Found). x .answer) (found-none (c .before .before .before .args .b .now) (c .before .loop .left) (c .before .loop .at) (c .loop-test .left)))
+
+pub walk-frames-spec : {M : Type 1} → statement M
+walk-frames-spec =
+    tie.close
+    (tie.spec
+    Inv-loop
+    μ-loop
+    loop-holds
+    next-at-requires
+    enum-known-e
+    returns
+    enum-known-end
+    sub-left
+    loop-less
+    loop-again
+    returns-2)

@@ -1,0 +1,47 @@
+//! The families of the trailer and listing tests; a family and a seed give the same inputs again.
+
+use super::cases::TrailerCase;
+use super::{around, changed, limits, nested, walked, written};
+use crate::cases::Family;
+
+/// The families that the self-check goes through, then those of large reels.
+pub const FAMILIES: [Family<TrailerCase>; 24] = [
+    Family { name: "ignored", batches: 4_000, emit: written::ignored },
+    Family { name: "rooms", batches: 60, emit: written::rooms },
+    Family { name: "old-trailers", batches: 1_000, emit: written::old_trailers },
+    Family { name: "trailer-bytes", batches: 60, emit: changed::trailer_bytes },
+    Family { name: "trailer-lengths", batches: 100, emit: changed::trailer_lengths },
+    Family { name: "trailer-fields", batches: 500, emit: changed::trailer_fields },
+    Family { name: "header-bytes", batches: 6, emit: walked::header_bytes },
+    Family { name: "header-faults", batches: 200, emit: walked::header_faults },
+    Family { name: "cuts", batches: 15, emit: walked::cuts },
+    Family { name: "others", batches: 6_000, emit: walked::others },
+    Family { name: "chunk-sizes", batches: 300, emit: walked::chunk_sizes },
+    Family { name: "left-over", batches: 12, emit: walked::left_over },
+    Family { name: "damaged", batches: 10_000, emit: walked::damaged },
+    Family { name: "chance", batches: 2_000, emit: walked::chance },
+    Family { name: "around", batches: 3_000, emit: around::around },
+    Family { name: "trees", batches: 150_000, emit: nested::trees },
+    Family { name: "tree-sizes", batches: 15_000, emit: nested::tree_sizes },
+    Family { name: "chains", batches: 200, emit: nested::chains },
+    Family { name: "misfits", batches: 600, emit: nested::misfits },
+    Family { name: "short-containers", batches: 60, emit: nested::short_containers },
+    Family { name: "outputs", batches: 100, emit: nested::outputs },
+    Family { name: "counts", batches: 20, emit: written::counts },
+    Family { name: "limits", batches: 10, emit: limits::limits },
+    Family { name: "longest", batches: 2, emit: written::longest },
+];
+
+/// How many of the families are of small reels.
+pub const SMALL: usize = 21;
+
+#[cfg(test)]
+mod tests {
+    use super::*;
+    use crate::cases::same_again;
+
+    #[test]
+    fn a_seed_gives_its_batch_again() {
+        FAMILIES[..SMALL].iter().for_each(same_again);
+    }
+}
