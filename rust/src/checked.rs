@@ -1,0 +1,243 @@
+//! Whole reels: checked, and then played lap after lap.
+
+use crate::boundary::{self, PairMut};
+use crate::chunk::{sub_chunks, Chunk, Chunks, FRAME};
+use crate::frame::read_frame;
+use crate::header::{Header, FILE_HEADER};
+use crate::refusal::{Refusal, Refused, Result};
+use crate::state::{Size, State};
+
+/// Checks a whole reel: plays every frame and the ring, and refuses a ring that doesn't lead back to frame 1.
+/// What stands behind the reel is looked at by [`check_trailer`](crate::check_trailer).
+pub fn check_reel(bytes: &[u8]) -> Result<()> {
+    let size = Header::of(bytes).and_then(|header| Size::new(header.width, header.height).ok());
+    match size {
+        Some(size) => {
+            let (mut first, mut second) = (State::blank(size), State::blank(size));
+            boundary::check_reel(bytes, first.lent_mut(), second.lent_mut())
+        }
+        // The size is at fault, or something before it, so that no working pair is needed.
+        None => {
+            let none = || PairMut { picture: &mut [], palette: &mut [] };
+            boundary::check_reel(bytes, none(), none())
+        }
+    }
+}
+
+/// A reel that the check accepted, so that every lap shows the same.
+///
+/// ```
+/// use flic::{CheckedReel, Reel, Size, State};
+/// # let size = Size::new(8, 1)?;
+/// # let mut reel = Reel::open(size, 200)?;
+/// # let mut state = State::blank(size);
+/// # reel.add(&state)?;
+/// # state.picture.pixels_mut().fill(7);
+/// # reel.add(&state)?;
+/// # let bytes = reel.close()?;
+/// let reel = CheckedReel::new(&bytes)?;
+/// assert_eq!((reel.header().frames, reel.header().speed), (2, 200));
+///
+/// for frame in reel.frames() {
+///     let kinds: Vec<u16> = reel.sub_chunks(frame.chunk).map(|chunk| chunk.kind).collect();
+///     println!("frame {} at offset {} holds {kinds:?}", frame.number, frame.chunk.offset);
+/// }
+///
+/// let order: Vec<(usize, usize)> = reel.laps().take(5).map(|frame| (frame.lap, frame.number)).collect();
+/// assert_eq!(order, [(1, 1), (1, 2), (1, 3), (2, 2), (2, 3)]);
+/// # Ok::<(), flic::Refused>(())
+/// ```
+#[derive(Clone, Debug)]
+pub struct CheckedReel<'a> {
+    bytes: &'a [u8],
+    header: Header,
+    size: Size,
+    chunks: Vec<Chunk>,
+    frames: Vec<Chunk>,
+}
+
+impl<'a> CheckedReel<'a> {
+    /// Checks the reel as [`check_reel`] does.
+    pub fn new(bytes: &'a [u8]) -> Result<CheckedReel<'a>> {
+        check_reel(bytes)?;
+        let header = Header::of(bytes).ok_or(Refused { refusal: Refusal::Cut, place: 0 })?;
+        let size = Size::new(header.width, header.height)?;
+        let wanted = usize::from(header.frames) + 1;
+        let (mut chunks, mut frames) = (Vec::new(), Vec::with_capacity(wanted));
+        for chunk in Chunks::new(bytes, FILE_HEADER, header.size as usize) {
+            chunks.push(chunk);
+            if chunk.kind == FRAME {
+                frames.push(chunk);
+            }
+            if frames.len() == wanted {
+                break;
+            }
+        }
+        Ok(CheckedReel { bytes, header, size, chunks, frames })
+    }
+
+    pub fn header(&self) -> &Header {
+        &self.header
+    }
+
+    pub fn size(&self) -> Size {
+        self.size
+    }
+
+    /// The top-level chunks up to the ring: frames, and others that are stepped over.
+    pub fn chunks(&self) -> &[Chunk] {
+        &self.chunks
+    }
+
+    /// The frame chunks, the last being the ring.
+    pub fn frame_chunks(&self) -> &[Chunk] {
+        &self.frames
+    }
+
+    /// What a frame chunk of this reel holds.
+    pub fn sub_chunks(&self, frame: Chunk) -> impl Iterator<Item = Chunk> + 'a {
+        sub_chunks(self.bytes, frame)
+    }
+
+    /// One lap: every frame, then the ring.
+    pub fn frames(&self) -> impl Iterator<Item = Frame> + '_ {
+        self.laps().take(self.frames.len())
+    }
+
+    /// Lap after lap without end: the ring is followed by frame 2, or by itself in a reel of one frame.
+    pub fn laps(&self) -> Laps<'_> {
+        Laps { reel: self, state: State::blank(self.size), lap: 1, number: 1 }
+    }
+}
+
+/// A frame as it is played.
+#[derive(Clone, Debug, PartialEq, Eq)]
+pub struct Frame {
+    /// Counted from 1.
+    pub lap: usize,
+    /// Counted from 1; the ring has the number after the last frame's.
+    pub number: usize,
+    pub is_ring: bool,
+    pub chunk: Chunk,
+    /// What shows from this frame on.
+    pub state: State,
+}
+
+/// A reel being played, from [`CheckedReel::laps`].
+#[derive(Clone, Debug)]
+pub struct Laps<'a> {
+    reel: &'a CheckedReel<'a>,
+    state: State,
+    lap: usize,
+    number: usize,
+}
+
+impl Iterator for Laps<'_> {
+    type Item = Frame;
+
+    fn next(&mut self) -> Option<Frame> {
+        let (lap, number, ring) = (self.lap, self.number, self.reel.frames.len());
+        let chunk = self.reel.frames[number - 1];
+        read_frame(&self.reel.bytes[chunk.offset..chunk.end()], &mut self.state)
+            .expect("a checked reel's frames are accepted in every lap");
+        (self.lap, self.number) = if number == ring { (lap + 1, ring.min(2)) } else { (lap, number + 1) };
+        Some(Frame { lap, number, is_ring: number == ring, chunk, state: self.state.clone() })
+    }
+}
+
+#[cfg(test)]
+mod tests {
+    use super::*;
+    use crate::reel::Reel;
+    use crate::write_frame;
+
+    fn states(count: u8) -> Vec<State> {
+        let size = Size::new(6, 3).expect("a size that is taken");
+        let state = |number: u8| {
+            let mut state = State::blank(size);
+            state.picture.pixels_mut()[..usize::from(number)].fill(number);
+            state.palette.set_colour(number, [number; 3]);
+            state
+        };
+        (1..=count).map(state).collect()
+    }
+
+    fn built(states: &[State]) -> Vec<u8> {
+        let mut reel = Reel::open(states[0].size(), 70).expect("a reel");
+        states.iter().for_each(|state| reel.add(state).expect("a frame"));
+        reel.close().expect("a file")
+    }
+
+    #[test]
+    fn three_laps_show_what_was_added() -> Result<()> {
+        for count in 1..=4 {
+            let states = states(count);
+            let bytes = built(&states);
+            let reel = CheckedReel::new(&bytes)?;
+            let played: Vec<Frame> = reel.laps().take_while(|frame| frame.lap <= 3).collect();
+            assert_eq!(played.len(), 3 * states.len() + 1);
+            for frame in played {
+                assert_eq!(frame.is_ring, frame.number == states.len() + 1);
+                assert_eq!(frame.state, states[(frame.number - 1) % states.len()], "{count}: {}", frame.number);
+            }
+        }
+        Ok(())
+    }
+
+    #[test]
+    fn chunks_are_found_where_they_lie() -> Result<()> {
+        let bytes = built(&states(2));
+        let reel = CheckedReel::new(&bytes)?;
+        let frames = reel.frame_chunks();
+        assert_eq!((frames.len(), frames, frames[0].offset), (3, reel.chunks(), 128));
+        assert_eq!((frames[1].offset, frames[2].offset), (frames[0].end(), frames[1].end()));
+        assert_eq!(frames[2].end(), bytes.len());
+        for frame in frames {
+            let sum: usize = reel.sub_chunks(*frame).map(|chunk| chunk.size).sum();
+            assert_eq!(16 + sum, frame.size);
+        }
+        Ok(())
+    }
+
+    #[test]
+    fn other_chunks_are_stepped_over_and_kept_in_the_list() -> Result<()> {
+        let mut bytes = built(&states(1));
+        bytes.splice(128..128, [8, 0, 0, 0, 0, 0xF1, 5, 5]);
+        let size = bytes.len() as u32;
+        bytes[..4].copy_from_slice(&size.to_le_bytes());
+        let reel = CheckedReel::new(&bytes)?;
+        assert_eq!(reel.chunks()[0], Chunk { offset: 128, kind: 0xF100, size: 8 });
+        assert_eq!((reel.chunks().len(), reel.frame_chunks().len()), (3, 2));
+        Ok(())
+    }
+
+    #[test]
+    fn a_ring_to_itself_is_refused() -> Result<()> {
+        let states = states(3);
+        let mut bytes = built(&states);
+        let ring = CheckedReel::new(&bytes)?.frame_chunks()[3];
+        bytes.truncate(ring.offset);
+        bytes.extend(write_frame(&states[0], &states[0])?);
+        let size = bytes.len() as u32;
+        bytes[..4].copy_from_slice(&size.to_le_bytes());
+        assert_eq!(check_reel(&bytes), Err(Refused { refusal: Refusal::BadRing, place: ring.offset as u64 }));
+        Ok(())
+    }
+
+    #[test]
+    fn any_cut_is_refused() {
+        let bytes = built(&states(3));
+        for length in 0..bytes.len() {
+            let refused = check_reel(&bytes[..length]).unwrap_err();
+            assert_eq!((refused.refusal, refused.place), (Refusal::Cut, 0), "{length}");
+        }
+    }
+
+    #[test]
+    fn a_size_that_no_board_has_is_refused() {
+        let mut bytes = built(&states(1));
+        bytes[8..10].copy_from_slice(&65_535u16.to_le_bytes());
+        bytes[10..12].copy_from_slice(&65_535u16.to_le_bytes());
+        assert_eq!(check_reel(&bytes), Err(Refused { refusal: Refusal::BadSize, place: 0 }));
+    }
+}

@@ -1,0 +1,60 @@
+//! `flic trailer`: the index of frame offsets behind a reel, checked or written.
+
+use super::Command;
+use crate::tool::arguments::Arguments;
+use crate::tool::failure::{misused, wrong, Outcome};
+use crate::tool::say::say;
+use crate::tool::{files, refused};
+use flic::{check_trailer, write_trailer, Header};
+use std::path::Path;
+
+pub const COMMAND: Command = Command {
+    name: "trailer",
+    summary: "checks or writes the index of frame offsets behind a reel",
+    help: "usage: flic trailer check|write FILE
+
+check   says whether what stands behind the reel is its trailer, or nothing; exit status 1 if it is something else.
+write   writes the trailer behind the reel, in place of whatever stands there.
+
+Neither opens a frame; flic check does.
+",
+    options: &[],
+    run,
+};
+
+fn run(arguments: Arguments) -> Outcome {
+    let [task, file] = arguments.exactly(["check or write", "FILE"])?;
+    match task.to_str() {
+        Some("check") => check(&file),
+        Some("write") => write(&file),
+        _ => misused(format!("{} isn't check or write", task.display())),
+    }
+}
+
+fn check(file: &Path) -> Outcome {
+    let bytes = files::read(file)?;
+    match check_trailer(&bytes) {
+        Ok(()) if behind(&bytes) == 0 => say(&format!("{}: ok, without a trailer\n", file.display())),
+        Ok(()) => say(&format!("{}: ok, a trailer of {} bytes\n", file.display(), behind(&bytes))),
+        Err(why) => wrong(refused::line(file, &bytes, why)),
+    }
+}
+
+fn write(file: &Path) -> Outcome {
+    let mut bytes = files::read(file)?;
+    let before = bytes.len();
+    let was_right = check_trailer(&bytes).is_ok();
+    let written = write_trailer(&mut bytes);
+    refused::accepted(file, &bytes, written)?;
+    let replaced = match was_right {
+        true => String::new(),
+        false => format!(", in place of {} bytes that weren't its trailer", before - (bytes.len() - behind(&bytes))),
+    };
+    files::write(file, &bytes)?;
+    say(&format!("{}: a trailer of {} bytes{replaced}\n", file.display(), behind(&bytes)))
+}
+
+/// How many bytes stand behind the reel.
+fn behind(bytes: &[u8]) -> usize {
+    Header::of(bytes).map_or(0, |header| bytes.len().saturating_sub(header.size as usize))
+}

@@ -1,0 +1,55 @@
+//! Reads, writes, checks and builds FLC animations (Autodesk Animator Pro) with a codec whose every function is proved.
+//!
+//! A [`Reel`] takes pictures and gives a file; a [`CheckedReel`] is a file that was checked, and plays it. One frame is
+//! read, written and rewritten by [`read_frame`], [`write_frame`] and [`rewrite_frame`]. What can't be done is
+//! [`Refused`], with its reason and place.
+//!
+//! The codec is `libcapi.a`, which `rt staticlib capi` makes; the environment's `FLIC_LIB_DIR` names the directory that
+//! holds it, if it isn't `target/staticlib` of the repository.
+//!
+//! ```
+//! use flic::{CheckedReel, Reel, Size, State};
+//!
+//! let size = Size::new(4, 2)?;
+//! let mut day = State::blank(size);
+//! day.palette.set_colour(1, [255, 255, 255]);
+//! day.picture.pixels_mut().fill(1);
+//! let mut night = day.clone();
+//! night.palette.set_colour(1, [0, 0, 80]);
+//!
+//! let mut reel = Reel::open(size, 500)?;
+//! reel.add(&day)?;
+//! reel.add(&night)?;
+//! let file = reel.close()?;
+//!
+//! let reel = CheckedReel::new(&file)?;
+//! let shown: Vec<State> = reel.frames().map(|frame| frame.state).collect();
+//! assert_eq!(shown, [day.clone(), night, day]);
+//! # Ok::<(), flic::Refused>(())
+//! ```
+
+#![deny(unsafe_code)]
+
+#[allow(unsafe_code)]
+mod boundary;
+mod checked;
+mod chunk;
+mod frame;
+mod header;
+mod listing;
+mod place;
+mod reel;
+mod refusal;
+mod state;
+mod trailer;
+
+pub use checked::{check_reel, CheckedReel, Frame, Laps};
+pub use chunk::{Chunk, FRAME, FRAME_HEADER};
+pub use frame::{read_frame, rewrite_frame, write_frame, Rewritten};
+pub use header::{Header, FILE_HEADER};
+pub use listing::{list, LISTED_MOST};
+pub use place::{part_of, Part};
+pub use reel::{Reel, MOST_FRAMES};
+pub use refusal::{Refusal, Refused, Result};
+pub use state::{Palette, Picture, Size, State, PALETTE};
+pub use trailer::{check_trailer, write_trailer};

@@ -1,0 +1,169 @@
+//! Refusals: what was wrong, where, and what to do about it.
+
+use std::error::Error;
+use std::fmt;
+
+/// Why a call was refused, under the names and numbers of docs/REFUSALS.md.
+#[derive(Clone, Copy, Debug, PartialEq, Eq, Hash, PartialOrd, Ord)]
+#[non_exhaustive]
+#[repr(u32)]
+pub enum Refusal {
+    ShortSlice = 1,
+    /// Given by this crate too where two states that belong together differ in size.
+    BadSize = 2,
+    NoRoom = 3,
+    Cut = 4,
+    WrongType = 5,
+    SmallSize = 6,
+    BodyEnds = 7,
+    ZeroCount = 8,
+    PastWidth = 9,
+    PastHeight = 10,
+    BadWord = 11,
+    PastPalette = 12,
+    OverLevel = 13,
+    BadHeader = 14,
+    FewFrames = 15,
+    BadRing = 16,
+    BadTrailer = 17,
+    WrongTime = 18,
+}
+
+use Refusal::*;
+
+impl Refusal {
+    /// Every refusal, in the order of the numbers.
+    pub const ALL: [Refusal; 18] = [
+        ShortSlice,
+        BadSize,
+        NoRoom,
+        Cut,
+        WrongType,
+        SmallSize,
+        BodyEnds,
+        ZeroCount,
+        PastWidth,
+        PastHeight,
+        BadWord,
+        PastPalette,
+        OverLevel,
+        BadHeader,
+        FewFrames,
+        BadRing,
+        BadTrailer,
+        WrongTime,
+    ];
+
+    /// The number by which the C boundary and the papers call it.
+    pub fn number(self) -> u32 {
+        self as u32
+    }
+
+    /// The refusal with this number.
+    ///
+    /// ```
+    /// use flic::Refusal;
+    /// assert_eq!(Refusal::with_number(16), Some(Refusal::BadRing));
+    /// assert_eq!(Refusal::with_number(0), None);
+    /// ```
+    pub fn with_number(number: u32) -> Option<Refusal> {
+        Refusal::ALL.into_iter().find(|refusal| refusal.number() == number)
+    }
+
+    /// What was found.
+    pub fn meaning(self) -> &'static str {
+        match self {
+            ShortSlice => "a picture has fewer pixels than width times height, or a palette fewer than 768 bytes",
+            BadSize => "the width isn't 1 to 320, the height isn't 1 to 200, or two pictures differ in size",
+            NoRoom => "there is no room for what is to be written",
+            Cut => "the bytes end too soon, or a size runs past what encloses it",
+            WrongType => "this isn't a FLC file, or not a frame of one",
+            SmallSize => "a size is less than its own header",
+            BodyEnds => "a chunk ends before its data",
+            ZeroCount => "a BRUN packet has count 0",
+            PastWidth => "a packet runs past the right edge",
+            PastHeight => "a row lies below the picture",
+            BadWord => "a delta chunk holds a word that has no meaning there",
+            PastPalette => "a colour packet runs past entry 255",
+            OverLevel => "a colour level is over 63",
+            BadHeader => "the depth isn't 8, the frames aren't 1 to 4,000, or the file was never closed",
+            FewFrames => "frames or the ring are missing",
+            BadRing => "the ring doesn't lead back to frame 1",
+            BadTrailer => "what stands behind the reel isn't its trailer",
+            WrongTime => "a reel takes 1 to 4,000 frames, and is closed once",
+        }
+    }
+
+    /// What to do about it.
+    pub fn advice(self) -> &'static str {
+        match self {
+            ShortSlice => "hand in width times height pixels, and 768 bytes of palette",
+            BadSize => "check the size that the board is set to",
+            NoRoom => "give more room, or make the file smaller",
+            Cut | SmallSize | BodyEnds => "copy the file anew",
+            WrongType => "check which file it is",
+            ZeroCount | BadWord | PastPalette | OverLevel => {
+                "copy the file anew; if it stays, the tool that wrote it is at fault"
+            }
+            PastWidth | PastHeight => "the frame is for a larger picture, or damaged: copy the file anew",
+            BadHeader | FewFrames => "make the file anew",
+            BadRing => "a board would show a wrong picture from the second lap on: make the file anew",
+            BadTrailer => "write the trailer anew",
+            WrongTime => "open a new reel",
+        }
+    }
+}
+
+impl fmt::Display for Refusal {
+    fn fmt(&self, f: &mut fmt::Formatter<'_>) -> fmt::Result {
+        write!(f, "{}; {}", self.meaning(), self.advice())
+    }
+}
+
+/// A refused call: nothing was changed.
+#[derive(Clone, Copy, Debug, PartialEq, Eq, Hash)]
+pub struct Refused {
+    pub refusal: Refusal,
+    /// The offset, in the bytes handed in, of the chunk header at fault, or of where it should begin.
+    pub place: u64,
+}
+
+impl fmt::Display for Refused {
+    fn fmt(&self, f: &mut fmt::Formatter<'_>) -> fmt::Result {
+        write!(f, "refused {} at offset {}: {}", self.refusal.number(), self.place, self.refusal)
+    }
+}
+
+impl Error for Refused {}
+
+/// What a call that can be refused gives.
+pub type Result<T> = std::result::Result<T, Refused>;
+
+#[cfg(test)]
+mod tests {
+    use super::*;
+
+    #[test]
+    fn numbers_run_from_1_to_18_and_lead_back() {
+        let numbers: Vec<u32> = Refusal::ALL.iter().map(|refusal| refusal.number()).collect();
+        assert_eq!(numbers, (1..=18).collect::<Vec<u32>>());
+        assert!(Refusal::ALL.iter().all(|refusal| Refusal::with_number(refusal.number()) == Some(*refusal)));
+        assert_eq!((Refusal::with_number(0), Refusal::with_number(19)), (None, None));
+    }
+
+    #[test]
+    fn names_are_those_of_the_document() {
+        let document = include_str!("../../docs/REFUSALS.md");
+        for refusal in Refusal::ALL {
+            let row = format!("| {} | {refusal:?} |", refusal.number());
+            assert!(document.contains(&row), "docs/REFUSALS.md has no row that begins {row}");
+        }
+    }
+
+    #[test]
+    fn a_refusal_says_number_place_and_what_to_do() {
+        let refused = Refused { refusal: Refusal::BadTrailer, place: 7 };
+        let text = "refused 17 at offset 7: what stands behind the reel isn't its trailer; write the trailer anew";
+        assert_eq!(refused.to_string(), text);
+    }
+}

@@ -1,0 +1,105 @@
+//! A line on the terminal about work that takes longer than a second.
+
+use std::io::{self, IsTerminal, Write};
+use std::sync::atomic::{AtomicUsize, Ordering};
+use std::sync::{Arc, Condvar, Mutex};
+use std::thread::{self, JoinHandle};
+use std::time::{Duration, Instant};
+
+const PATIENCE: Duration = Duration::from_secs(1);
+const INTERVAL: Duration = Duration::from_millis(200);
+
+/// Shows itself from the first second on, and is wiped away when it is dropped.
+pub struct Progress {
+    shared: Arc<Shared>,
+    line: Option<JoinHandle<()>>,
+}
+
+struct Shared {
+    what: String,
+    done: AtomicUsize,
+    total: usize,
+    is_over: Mutex<bool>,
+    bell: Condvar,
+}
+
+impl Progress {
+    /// `total` is how many steps there will be; 0 where they can't be counted.
+    pub fn new(what: String, total: usize) -> Progress {
+        let (done, is_over, bell) = (AtomicUsize::new(0), Mutex::new(false), Condvar::new());
+        let shared = Arc::new(Shared { what, done, total, is_over, bell });
+        let line = io::stderr().is_terminal().then(|| {
+            let shared = Arc::clone(&shared);
+            thread::spawn(move || shared.show())
+        });
+        Progress { shared, line }
+    }
+
+    pub fn step(&self) {
+        self.shared.done.fetch_add(1, Ordering::Relaxed);
+    }
+}
+
+impl Drop for Progress {
+    fn drop(&mut self) {
+        if let Ok(mut is_over) = self.shared.is_over.lock() {
+            *is_over = true;
+        }
+        self.shared.bell.notify_all();
+        if let Some(line) = self.line.take() {
+            let _ = line.join();
+        }
+    }
+}
+
+impl Shared {
+    fn show(&self) {
+        let start = Instant::now();
+        let mut pause = PATIENCE;
+        while !self.is_over_after(pause) {
+            let _ = write!(io::stderr(), "\r{}\x1b[K", self.text(start.elapsed()));
+            pause = INTERVAL;
+        }
+        if pause == INTERVAL {
+            let _ = write!(io::stderr(), "\r\x1b[K");
+        }
+    }
+
+    fn is_over_after(&self, pause: Duration) -> bool {
+        let Ok(is_over) = self.is_over.lock() else { return true };
+        match self.bell.wait_timeout_while(is_over, pause, |is_over| !*is_over) {
+            Ok((is_over, _)) => *is_over,
+            Err(_) => true,
+        }
+    }
+
+    fn text(&self, elapsed: Duration) -> String {
+        match self.total {
+            0 => format!("{} .. {} s", self.what, elapsed.as_secs()),
+            total => {
+                format!("{} .. {} of {total}, {} s", self.what, self.done.load(Ordering::Relaxed), elapsed.as_secs())
+            }
+        }
+    }
+}
+
+#[cfg(test)]
+mod tests {
+    use super::*;
+
+    #[test]
+    fn steps_are_counted() {
+        let progress = Progress::new("adding".to_string(), 5);
+        progress.step();
+        progress.step();
+        assert_eq!(progress.shared.text(Duration::from_secs(3)), "adding .. 2 of 5, 3 s");
+        assert_eq!(Progress::new("checking".to_string(), 0).shared.text(Duration::ZERO), "checking .. 0 s");
+    }
+
+    #[test]
+    fn quick_work_is_not_waited_for() {
+        let start = Instant::now();
+        drop(Progress::new(String::new(), 0));
+        assert!(start.elapsed() < PATIENCE);
+    }
+}

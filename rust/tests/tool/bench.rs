@@ -1,0 +1,107 @@
+//! A directory in which the tool is run, gone when the test is over.
+
+use std::fs;
+use std::path::{Path, PathBuf};
+use std::process::{self, Command};
+use std::sync::atomic::{AtomicUsize, Ordering};
+
+pub struct Bench {
+    directory: PathBuf,
+}
+
+/// How a run of the tool ended, and what it said.
+pub struct Run {
+    pub status: i32,
+    pub out: String,
+    pub err: String,
+}
+
+impl Bench {
+    pub fn new() -> Bench {
+        static NUMBER: AtomicUsize = AtomicUsize::new(0);
+        let name = format!("{}-{}", process::id(), NUMBER.fetch_add(1, Ordering::Relaxed));
+        let directory = Path::new(env!("CARGO_TARGET_TMPDIR")).join(name);
+        fs::create_dir_all(&directory).unwrap();
+        Bench { directory }
+    }
+
+    /// A bench with pictures `1.ppm`, `2.ppm` and so on.
+    pub fn with_pictures(pictures: &[Vec<u8>]) -> Bench {
+        let bench = Bench::new();
+        for (at, picture) in pictures.iter().enumerate() {
+            bench.write(&format!("{}.ppm", at + 1), picture);
+        }
+        bench
+    }
+
+    /// A bench with `reel.flc`, built of the pictures.
+    pub fn with_reel(pictures: &[Vec<u8>]) -> Bench {
+        let bench = Bench::with_pictures(pictures);
+        let names: Vec<String> = (1..=pictures.len()).map(|number| format!("{number}.ppm")).collect();
+        let mut words = vec!["build", "reel.flc", "--speed", "70"];
+        words.extend(names.iter().map(String::as_str));
+        bench.done(&words);
+        bench
+    }
+
+    pub fn path(&self, name: &str) -> PathBuf {
+        self.directory.join(name)
+    }
+
+    pub fn write(&self, name: &str, bytes: &[u8]) {
+        fs::write(self.path(name), bytes).unwrap();
+    }
+
+    pub fn read(&self, name: &str) -> Vec<u8> {
+        fs::read(self.path(name)).unwrap()
+    }
+
+    /// What lies in a directory of the bench, sorted; `.` is the bench itself.
+    pub fn names(&self, directory: &str) -> Vec<String> {
+        let entries = fs::read_dir(self.path(directory)).unwrap();
+        let mut names: Vec<String> = entries.map(|entry| entry.unwrap().file_name().into_string().unwrap()).collect();
+        names.sort();
+        names
+    }
+
+    pub fn run(&self, words: &[&str]) -> Run {
+        let output =
+            Command::new(env!("CARGO_BIN_EXE_flic")).args(words).current_dir(&self.directory).output().unwrap();
+        Run {
+            status: output.status.code().unwrap(),
+            out: String::from_utf8(output.stdout).unwrap(),
+            err: String::from_utf8(output.stderr).unwrap(),
+        }
+    }
+
+    /// What the tool says where it must succeed.
+    pub fn done(&self, words: &[&str]) -> String {
+        let run = self.run(words);
+        assert_eq!((run.status, run.err.as_str()), (0, ""), "{words:?}: {}", run.out);
+        run.out
+    }
+
+    /// What the tool says on standard error where it must fail with this status, and leave the bench as it is.
+    pub fn fails(&self, status: i32, words: &[&str]) -> String {
+        let before = self.names(".");
+        let run = self.run(words);
+        assert_eq!(run.status, status, "{words:?}: {}{}", run.out, run.err);
+        assert_eq!(self.names("."), before, "{words:?}");
+        run.err
+    }
+
+    /// The pictures that a reel of the bench shows, in the order of the files' names.
+    pub fn frames(&self, reel: &str, laps: &str) -> Vec<Vec<u8>> {
+        let directory = format!("frames of {reel} {laps}");
+        self.done(&["frames", reel, &directory, "--laps", laps]);
+        let frames = self.names(&directory).iter().map(|name| self.read(&format!("{directory}/{name}"))).collect();
+        fs::remove_dir_all(self.path(&directory)).unwrap();
+        frames
+    }
+}
+
+impl Drop for Bench {
+    fn drop(&mut self) {
+        let _ = fs::remove_dir_all(&self.directory);
+    }
+}

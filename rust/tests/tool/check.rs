@@ -1,0 +1,82 @@
+//! `flic check`.
+
+use crate::bench::Bench;
+use crate::pictures::pictures;
+use flic::{write_frame, CheckedReel};
+
+/// The line that the check prints of `reel.flc` once it has these bytes, with exit status 1.
+fn refusal(bench: &Bench, bytes: &[u8]) -> String {
+    bench.write("reel.flc", bytes);
+    let run = bench.run(&["check", "reel.flc"]);
+    assert_eq!((run.status, run.err.as_str()), (1, ""), "{}", run.out);
+    run.out
+}
+
+#[test]
+fn a_built_reel_is_right() {
+    let bench = Bench::with_reel(&pictures(3));
+    assert_eq!(bench.done(&["check", "reel.flc"]), "reel.flc: ok\n");
+    bench.done(&["trailer", "write", "reel.flc"]);
+    assert_eq!(bench.done(&["check", "reel.flc"]), "reel.flc: ok\n");
+}
+
+#[test]
+fn refusals_have_their_place_and_frame() {
+    let bench = Bench::with_reel(&pictures(3));
+    let right = bench.read("reel.flc");
+    let frames = CheckedReel::new(&right).unwrap().frame_chunks().to_vec();
+
+    let cut = refusal(&bench, &right[..right.len() - 1]);
+    assert!(cut.starts_with("reel.flc: refused 4 at offset 0, in the file header: the bytes end too soon"), "{cut}");
+    assert!(cut.ends_with("copy the file anew\n"), "{cut}");
+
+    for (frame, part) in frames.iter().zip(["frame 1 of 3", "frame 2 of 3", "frame 3 of 3", "the ring"]) {
+        let mut damaged = right.clone();
+        damaged[frame.offset + 16] = 5;
+        damaged[frame.offset + 17..frame.offset + 20].fill(0);
+        let start = format!("reel.flc: refused 6 at offset {}, in {part}: ", frame.offset + 16);
+        let line = refusal(&bench, &damaged);
+        assert!(line.starts_with(&start), "{line}");
+
+        let mut damaged = right.clone();
+        damaged[frame.offset + 3] = 1;
+        let start = format!("reel.flc: refused 4 at offset {}, in {part}: ", frame.offset);
+        let line = refusal(&bench, &damaged);
+        assert!(line.starts_with(&start), "{line}");
+    }
+}
+
+#[test]
+fn a_ring_written_from_frame_1_to_itself_is_found() {
+    let bench = Bench::with_reel(&pictures(3));
+    let right = bench.read("reel.flc");
+    let reel = CheckedReel::new(&right).unwrap();
+    let ring = reel.frame_chunks()[3].offset;
+    let first = reel.frames().next().unwrap().state;
+    let mut wrong = right[..ring].to_vec();
+    wrong.extend(write_frame(&first, &first).unwrap());
+    let size = wrong.len() as u32;
+    wrong[..4].copy_from_slice(&size.to_le_bytes());
+    let line = refusal(&bench, &wrong);
+    assert!(line.starts_with(&format!("reel.flc: refused 16 at offset {ring}, in the ring: ")), "{line}");
+}
+
+#[test]
+fn what_stands_behind_the_reel_is_checked() {
+    let bench = Bench::with_reel(&pictures(1));
+    let mut bytes = bench.read("reel.flc");
+    bytes.push(0);
+    let line = refusal(&bench, &bytes);
+    assert!(line.starts_with("reel.flc: refused 17 at offset 0, in the trailer: "), "{line}");
+}
+
+#[test]
+fn every_file_is_told_of() {
+    let bench = Bench::with_reel(&pictures(2));
+    bench.write("empty.flc", b"");
+    let run = bench.run(&["check", "missing.flc", "empty.flc", "reel.flc"]);
+    assert_eq!(run.status, 1);
+    assert!(run.err.starts_with("flic: missing.flc: can't be read: "), "{}", run.err);
+    assert!(run.out.starts_with("empty.flc: refused 4 at offset 0, in the file header: "), "{}", run.out);
+    assert!(run.out.ends_with("\nreel.flc: ok\n"), "{}", run.out);
+}

@@ -1,0 +1,35 @@
+//! `flic info`.
+
+use crate::bench::Bench;
+use crate::pictures::pictures;
+
+/// The bytes in each row of the table, the whole file's last.
+fn bytes_column(text: &str) -> Vec<usize> {
+    let rows = text.lines().filter(|line| line.ends_with('%'));
+    rows.map(|row| row.split_whitespace().rev().nth(1).unwrap().parse().unwrap()).collect()
+}
+
+#[test]
+fn fields_and_shares() {
+    let bench = Bench::with_reel(&pictures(3));
+    bench.done(&["trailer", "write", "reel.flc"]);
+    let text = bench.done(&["info", "reel.flc"]);
+    for line in ["frames   3 and the ring", "width    37", "height   21", "speed    70 ms a frame", "aspect   1:1"] {
+        assert!(text.lines().any(|found| found == line), "{line}: {text}");
+    }
+    let (whole, parts) = bytes_column(&text).split_last().map(|(whole, parts)| (*whole, parts.to_vec())).unwrap();
+    assert_eq!((parts.iter().sum::<usize>(), whole), (whole, bench.read("reel.flc").len()));
+    assert!(text.contains("trailer "), "{text}");
+}
+
+#[test]
+fn a_refused_file_shows_its_header() {
+    let bench = Bench::with_reel(&pictures(3));
+    let mut bytes = bench.read("reel.flc");
+    bytes[14] = 0;
+    bench.write("reel.flc", &bytes);
+    let run = bench.run(&["info", "reel.flc"]);
+    assert_eq!(run.status, 1);
+    assert!(run.out.contains("flags    0 (not closed)"), "{}", run.out);
+    assert!(run.err.starts_with("flic: reel.flc: refused 14 at offset 0, in the file header: "), "{}", run.err);
+}

@@ -1,0 +1,13 @@
+//! Runs the tool in directories of its own, and looks at what it says and leaves.
+
+mod bench;
+mod build;
+mod check;
+mod frames;
+mod info;
+mod list;
+mod pictures;
+mod rewrite;
+mod samples;
+mod trailer;
+mod usage;

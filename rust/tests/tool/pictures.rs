@@ -1,0 +1,22 @@
+//! Pictures for the tests.
+
+/// A PPM file, each pixel's colour given by its column and row.
+pub fn ppm(width: usize, height: usize, colour: impl Fn(usize, usize) -> [u8; 3]) -> Vec<u8> {
+    let mut bytes = format!("P6\n{width} {height}\n255\n").into_bytes();
+    for y in 0..height {
+        for x in 0..width {
+            bytes.extend(colour(x, y));
+        }
+    }
+    bytes
+}
+
+/// Pictures of 37 by 21 pixels that differ in places and colours.
+pub fn pictures(count: usize) -> Vec<Vec<u8>> {
+    let colour = |number: usize, x: usize, y: usize| match (x + number) % 9 {
+        0 => [(number * 40) as u8, 0, 90],
+        1..=3 if y % 4 == number % 4 => [200, (x * 6) as u8, (y / 4 * 20) as u8],
+        _ => [10, 20, 30],
+    };
+    (0..count).map(|number| ppm(37, 21, |x, y| colour(number, x, y))).collect()
+}

@@ -1,0 +1,46 @@
+//! The command line itself: help, and what is wrong with it.
+
+use crate::bench::Bench;
+
+const COMMANDS: [&str; 7] = ["check", "info", "list", "frames", "build", "rewrite", "trailer"];
+
+#[test]
+fn help_for_the_tool_and_for_each_command() {
+    let bench = Bench::new();
+    let help = bench.done(&["--help"]);
+    for command in COMMANDS {
+        assert!(help.contains(&format!("\n  {command} ")), "{help}");
+        let usage = format!("usage: flic {command} ");
+        assert!(bench.done(&[command, "--help"]).starts_with(&usage));
+        assert!(bench.done(&[command, "file", "-h"]).starts_with(&usage));
+    }
+}
+
+#[test]
+fn wrong_usage_has_status_2_and_a_hint() {
+    let bench = Bench::new();
+    let error = |words: &[&str]| bench.fails(2, words);
+    assert_eq!(error(&[]), "flic: a command is missing\nusage: flic COMMAND ..\nflic --help lists the commands\n");
+    assert!(error(&["chek", "a"]).starts_with("flic: there is no command chek: did you mean check?\n"));
+    assert!(error(&["play", "a"]).starts_with("flic: there is no command play\n"));
+    let lap = error(&["frames", "a", "b", "--lap", "2"]);
+    assert!(
+        lap.starts_with("flic: there is no option --lap: did you mean --laps?\nusage: flic frames FILE DIR"),
+        "{lap}"
+    );
+    assert!(error(&["info", "-v", "a"]).starts_with("flic: there is no option -v\n"));
+    assert!(error(&["frames", "a", "b", "--laps"]).starts_with("flic: --laps needs a value behind it\n"));
+    assert!(error(&["rewrite", "a", "b", "c"]).starts_with("flic: c is one word too many\n"));
+    for command in COMMANDS {
+        assert!(error(&[command]).contains("is missing"), "{command}");
+    }
+}
+
+#[test]
+fn a_file_whose_name_looks_like_an_option() {
+    let bench = Bench::new();
+    bench.write("--help", b"");
+    let run = bench.run(&["check", "--", "--help"]);
+    assert_eq!(run.status, 1);
+    assert!(run.out.starts_with("--help: refused 4 at offset 0"), "{}", run.out);
+}

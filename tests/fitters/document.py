@@ -1,0 +1,108 @@
+"""Reads frames as the Animator Pro document and document 01 say; each step can be taken otherwise by a decoder."""
+from reel import CHUNK_HEADER, FRAME_HEADER, PALETTE_BYTES, word
+
+COLOR256, SS2, COLOR, LC, BLACK, BRUN, COPY, PSTAMP = 4, 7, 11, 12, 13, 15, 16, 18
+
+
+class Unforeseen(Exception):
+    """A decoder would leave the picture or the chunk: no reel of the test may ask for that."""
+
+
+def signed(byte):
+    return byte - 256 if byte > 127 else byte
+
+
+class Document:
+    def __init__(self, width, height):
+        self.width, self.height = width, height
+        self.picture, self.palette = bytearray(width * height), bytearray(PALETTE_BYTES)
+        self.touched = set()
+
+    def frame(self, data):
+        """Changes picture and palette by one frame chunk; gives whether the decoder shows it."""
+        at = FRAME_HEADER
+        for _ in range(word(data, 6, 2)):
+            size, kind = word(data, at, 4), word(data, at + 4, 2)
+            self.sub_chunk(kind, data[at + CHUNK_HEADER:at + size])
+            at += size
+        return True
+
+    def sub_chunk(self, kind, body):
+        if kind in (COLOR256, COLOR):
+            self.colour(body, self.level64 if kind == COLOR else self.level256)
+        elif kind == BLACK:
+            self.picture[:] = bytes(len(self.picture))
+        elif kind in (SS2, LC, BRUN, COPY):
+            {SS2: self.ss2, LC: self.lc, BRUN: self.brun, COPY: self.copy}[kind](body)
+
+    def level256(self, component):
+        return component
+
+    def level64(self, component):
+        return 4 * component
+
+    def colour(self, body, level):
+        at, index = 2, 0
+        for _ in range(word(body, 0, 2)):
+            index += body[at]
+            count = body[at + 1] or 256
+            levels = bytes(level(c) for c in body[at + 2:at + 2 + 3 * count])
+            self.palette[3 * index:3 * (index + count)] = levels
+            at += 2 + 3 * count
+            index += count
+
+    def copy(self, body):
+        self.picture[:] = body[:len(self.picture)]
+
+    def put(self, row, x, pixels):
+        if x + len(pixels) > self.width or row >= self.height:
+            raise Unforeseen(f"{len(pixels)} pixels at column {x} of row {row}")
+        at = row * self.width + x
+        self.picture[at:at + len(pixels)] = pixels
+
+    def brun(self, body):
+        at = 0
+        for row in range(self.height):
+            at, x = at + 1, 0
+            while x < self.width:
+                n = signed(body[at])
+                size = 1 if n > 0 else -n
+                pixels = body[at + 1:at + 1 + size] * max(1, n)
+                self.put(row, x, pixels)
+                at, x = at + 1 + size, x + len(pixels)
+
+    def packets(self, body, at, row, x, count, unit):
+        """Packets of a delta's row; gives where they end."""
+        for _ in range(count):
+            if at + 2 > len(body):
+                raise Unforeseen("a packet behind the chunk")
+            x += body[at]
+            n = signed(body[at + 1])
+            size = unit * n if n > 0 else unit if n < 0 else 0
+            pixels = body[at + 2:at + 2 + size]
+            if len(pixels) < size:
+                raise Unforeseen("pixels behind the chunk")
+            pixels *= max(1, -n)
+            self.put(row, x, pixels)
+            at, x = at + 2 + size, x + len(pixels)
+        return at
+
+    def lc(self, body):
+        row, at = word(body, 0, 2), 4
+        for row in range(row, row + word(body, 2, 2)):
+            at = self.packets(body, at + 2, row, body[at], body[at + 1], 1)
+
+    def last_pixel(self, row, pixel):
+        self.put(row, self.width - 1, bytes([pixel]))
+
+    def ss2(self, body):
+        lines, at, row = word(body, 0, 2), 2, 0
+        while lines > 0:
+            w, at = word(body, at, 2), at + 2
+            if w >> 14 == 3:
+                row += 65536 - w
+            elif w >> 14 == 2:
+                self.last_pixel(row, w & 255)
+            else:
+                at = self.packets(body, at, row, 0, w, 2)
+                row, lines = row + 1, lines - 1

@@ -1,0 +1,117 @@
+"""Frames that the papers allow and house form never writes: every kind, with all the freedoms that a reader grants."""
+import document
+import reel
+from document import BLACK, BRUN, COLOR, COLOR256, COPY, LC, PSTAMP, SS2, Unforeseen
+from outside import Outside
+
+UNKNOWN = (0, 1, 5, 14, 17, 19, 25, 0x0107, 0x800F)
+
+
+class Maker:
+    def __init__(self, rng, width, height):
+        self.rng, self.width, self.height = rng, width, height
+
+    def colour(self, kind, at_most=256):
+        rng, index, packets = self.rng, 0, []
+        while index < 256 and len(packets) < rng.choice([0, 1, 2, 5]):
+            skip = min(rng.choice([0, 1, rng.randrange(256)]), 255 - index)
+            count = rng.randrange(1, min(at_most, 256 - index - skip) + 1)
+            levels = bytes(rng.randrange(64 if kind == COLOR else 256) for _ in range(3 * count))
+            packets.append(bytes([skip, count % 256]) + levels)
+            index += skip + count
+        return reel.chunk(kind, len(packets).to_bytes(2, "little") + b"".join(packets))
+
+    def all_colours(self):
+        return reel.chunk(COLOR256, b"\1\0\0\0" + self.rng.randbytes(reel.PALETTE_BYTES))
+
+    def brun(self, true_counts, picture=None):
+        rng, body = self.rng, b""
+        for y in range(self.height):
+            packets, x = [], 0
+            while x < self.width:
+                n = min(rng.choice([1, 2, 127, 128, rng.randrange(1, 30)]), self.width - x)
+                row = picture and picture[y * self.width + x:y * self.width + x + n]
+                if picture is None and n < 128 and rng.randrange(2):
+                    packets.append(bytes([n, rng.randrange(256)]))
+                else:
+                    packets.append(bytes([256 - n]) + (row or rng.randbytes(n)))
+                x += n
+            count = len(packets) if true_counts and len(packets) < 256 else 0 if true_counts else rng.randrange(256)
+            body += bytes([count]) + b"".join(packets)
+        return reel.chunk(BRUN, body)
+
+    def delta_packets(self, x, unit, pixels):
+        """Packets from column x on, and how many they are."""
+        rng, data = self.rng, b""
+        count = rng.choice([0, 1, 1, 2, 3])
+        for _ in range(count):
+            skip = min(rng.choice([0, 0, 1, rng.randrange(256)]), max(0, self.width - x), 255)
+            room = min((self.width - x - skip) // unit, 128)
+            n = rng.randrange(room + 1) if room > 0 else 0
+            if n > 0 and rng.randrange(2):
+                data += bytes([skip, 256 - n]) + pixels(unit)
+            else:
+                n = min(n, 127)
+                data += bytes([skip, n]) + pixels(unit * n)
+            x += skip + unit * n
+        return data, count
+
+    def ss2(self, last_pixels=True):
+        rng, lines, row, body = self.rng, 0, 0, b""
+        while row < self.height and lines < rng.choice([1, 3, self.height]):
+            while row + 1 < self.height and rng.randrange(3) == 0:
+                skip = rng.randrange(1, min(self.height - row, 16384))
+                body, row = body + (65536 - skip).to_bytes(2, "little"), row + skip
+            if last_pixels and rng.randrange(2):
+                body += (0x8000 | rng.randrange(0x4000)).to_bytes(2, "little")
+            packets, count = self.delta_packets(0, 2, rng.randbytes)
+            body, row, lines = body + count.to_bytes(2, "little") + packets, row + 1, lines + 1
+        return reel.chunk(SS2, lines.to_bytes(2, "little") + body)
+
+    def lc(self):
+        """A chunk that stays inside the picture with and without a starting x in its rows."""
+        for _ in range(20000):
+            made = self.lc_either_way()
+            if made is not None:
+                return made
+        return reel.chunk(LC, bytes(4))
+
+    def lc_either_way(self):
+        rng = self.rng
+        first = rng.randrange(self.height)
+        rows = rng.randrange(1, min(4, self.height - first) + 1)
+        body = first.to_bytes(2, "little") + rows.to_bytes(2, "little")
+        for _ in range(rows):
+            start = rng.choice([0, 1, 1, 2, min(self.width, 9)])
+            packets, count = self.delta_packets(start, 1, lambda n: bytes(rng.choices([0, 1, 2, 254, 255], k=n)))
+            body += bytes([start, count]) + packets
+        try:
+            for reader in (document.Document, ByCount):
+                reader(self.width, self.height).lc(body)
+        except Unforeseen:
+            return None
+        return reel.chunk(LC, body)
+
+    def stamp(self):
+        inner = reel.chunk(COPY, self.rng.randbytes(8))
+        return reel.chunk(PSTAMP, b"\2\0\4\0\1\0" + inner)
+
+    def unknown(self):
+        return reel.chunk(self.rng.choice(UNKNOWN), self.rng.randbytes(self.rng.choice([4, 6, 20])))
+
+    def copy(self, spare=b""):
+        return reel.chunk(COPY, self.rng.randbytes(self.width * self.height) + spare)
+
+    def black(self):
+        return reel.chunk(BLACK, b"")
+
+    def whole(self, picture, palette):
+        """The sub-chunks that show this picture and palette whatever was there."""
+        return [reel.chunk(COLOR256, b"\1\0\0\0" + palette), self.brun(True, picture)]
+
+
+class ByCount(Outside):
+    """Kind 12 as outside decoders read it."""
+
+    def touch(self, rule):
+        pass
