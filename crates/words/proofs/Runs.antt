@@ -4,6 +4,7 @@ use mathlib.Core.List.{List, [], _∷_, _++_, append-nil, map}
 use Prim.Native.Nat.{ℕ, suc, zero, _<_, _≤_, _+_}
 use native.Mathlib.Nat.{le-of-suc-le-suc, not-suc-le-zero}
 use native.Mathlib.Numerals.{add-one}
+use native.Mathlib.Omega.{arith}
 use lib.ListN.{length, drop, take, set, getD, drop-of-length-le, replicate, replicate-append-replicate}
 use lib.Seq.{take-all, take-suc-set}
 
@@ -33,3 +34,13 @@ map-same f e (x ∷ xs) = ap₂ (λ (y : ℕ) (l : List ℕ). y ∷ l) (e x) (ma
 
 pub fill-step : (l : List ℕ) (i v : ℕ) → i < length l → take i l ≡ replicate i v → take (i + 1) (set l i v) ≡ replicate (i + 1) v
 fill-step l i v h e = rw (← replicate-append-replicate i 1 v, add-one, take-suc-set, e)
+
+-- two bytes stored over two
+pub two-stored : (d s : List ℕ) → length s ≡ 2 → length d ≡ 2 → set (set d 0 (getD s 0 0)) 1 (getD s 1 0) ≡ s
+two-stored (a ∷ b ∷ []) (x ∷ y ∷ []) e f = refl
+two-stored [] s e f = absurd (omega arith)
+two-stored (a ∷ []) s e f = absurd (omega arith)
+two-stored (a ∷ b ∷ c ∷ d) s e f = absurd (omega arith)
+two-stored (a ∷ b ∷ []) [] e f = absurd (omega arith)
+two-stored (a ∷ b ∷ []) (x ∷ []) e f = absurd (omega arith)
+two-stored (a ∷ b ∷ []) (x ∷ y ∷ z ∷ s) e f = absurd (omega arith)

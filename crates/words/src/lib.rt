@@ -36,11 +36,16 @@ pub fn u32_at(b: &[u8], at: usize) -> usize
     u16_at(b, at) + 65536 * u16_at(b, at + 2)
 }
 
-// Copies src to dst, which is as long.
+// Copies src to dst, which is as long. Two bytes, one pair of a delta, go by themselves: the loop is made for many.
 pub fn copy(dst: &mut [u8], src: &[u8])
     requires { ⌜ length (now src) ≡ length (now dst) ⌝ }
     ensures { λ _. ⌜ now (dst .exit) ≡ now (src .entry) ⌝ }
 {
+    if src.len() == 2 {
+        dst[0] = src[0];
+        dst[1] = src[1];
+        return;
+    }
     let mut i = 0;
     while i < src.len() {
         dst[i] = src[i];

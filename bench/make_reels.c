@@ -1,0 +1,139 @@
+/* Makes the five reels of 320 by 200 through the C boundary, with the states that each shows, and says what each holds.
+ * Usage: make_reels DIRECTORY */
+#include <stdio.h>
+#include <string.h>
+
+#include "flic.h"
+#include "reel.h"
+
+#define KINDS 19
+
+static unsigned word(const uint8_t *at)
+{
+    return at[0] | at[1] << 8;
+}
+
+static unsigned brun_packets(const uint8_t *at, unsigned width, unsigned height)
+{
+    unsigned packets = 0;
+    for (unsigned row = 0; row < height; row++) {
+        at++;
+        for (unsigned x = 0; x < width; packets++) {
+            x += *at < 128 ? *at : 256 - *at;
+            at += *at < 128 ? 2 : 257 - *at;
+        }
+    }
+    return packets;
+}
+
+/* At even widths house form has no last-pixel words. */
+static unsigned ss2_packets(const uint8_t *at)
+{
+    unsigned packets = 0, lines = word(at);
+    at += 2;
+    while (lines > 0) {
+        unsigned count = word(at);
+        at += 2;
+        if (count >= 0xC000)
+            continue;
+        lines--;
+        packets += count;
+        for (; count > 0; count--)
+            at += at[1] < 128 ? 2 + 2 * at[1] : 4;
+    }
+    return packets;
+}
+
+struct met {
+    unsigned kinds[KINDS], packets;
+    size_t bytes;
+};
+
+static void count_frame(struct met *met, const struct reel *reel, unsigned i)
+{
+    const uint8_t *at = frame_bytes(reel, i);
+    unsigned chunks = word(at + 6);
+    met->bytes += frame_length(reel, i);
+    for (at += 16; chunks > 0; chunks--) {
+        unsigned kind = word(at + 4);
+        if (kind >= KINDS)
+            fail("a reel has a kind that house form doesn't have", "run ./test");
+        met->kinds[kind]++;
+        if (kind == 15)
+            met->packets += brun_packets(at + 6, reel->width, reel->height);
+        if (kind == 7)
+            met->packets += ss2_packets(at + 6);
+        at += word(at) | word(at + 2) << 16;
+    }
+}
+
+static void print_met(enum scene scene, const struct reel *reel)
+{
+    static const char *const names[KINDS] = {[4] = "COLOR256", [7] = "SS2", [13] = "BLACK", [15] = "BRUN", [16] = "COPY"};
+    struct met met = {0};
+    for (unsigned i = 1; i <= reel->frames; i++)
+        count_frame(&met, reel, i);
+    printf("%-8s %10zu %10zu %10u  ", scene_names[scene], frame_length(reel, 0), met.bytes / reel->frames,
+           met.packets / reel->frames);
+    for (unsigned kind = 0; kind < KINDS; kind++)
+        if (met.kinds[kind] > 0)
+            printf(" %s %u", names[kind], met.kinds[kind]);
+    printf("\n");
+}
+
+static FILE *created(const char *directory, enum scene scene, const char *ending)
+{
+    char name[4096];
+    snprintf(name, sizeof name, "%s/%s.%s", directory, scene_names[scene], ending);
+    FILE *file = fopen(name, "wb");
+    if (file == NULL)
+        fail("a file can't be made", "check that target/bench can be written to");
+    return file;
+}
+
+static void write_all(FILE *file, const uint8_t *bytes, size_t length)
+{
+    if (fwrite(bytes, 1, length, file) != length)
+        fail("a file can't be written", "check that there is room in target/bench");
+}
+
+/* Writes picture and palette after each frame as flic_read_frame gives them, which must be those that were asked for. */
+static void write_states(FILE *file, const struct reel *reel, const struct state *asked)
+{
+    size_t n = (size_t)reel->width * reel->height;
+    struct state shown = blank_state(reel->width, reel->height);
+    for (unsigned i = 0; i < reel->frames; i++) {
+        flic_answer answer = flic_read_frame(frame_bytes(reel, i), frame_length(reel, i), reel->width, reel->height,
+                                             shown.picture, n, shown.palette, PALETTE);
+        if (answer.number != 0 || memcmp(shown.picture, asked[i].picture, n) != 0 ||
+            memcmp(shown.palette, asked[i].palette, PALETTE) != 0)
+            fail("a reel doesn't show what was asked for", "run ./test");
+        write_all(file, shown.picture, n);
+        write_all(file, shown.palette, PALETTE);
+    }
+    free_state(&shown);
+}
+
+int main(int count, char **words)
+{
+    if (count != 2) {
+        fprintf(stderr, "usage: %s DIRECTORY\n", words[0]);
+        return 1;
+    }
+    printf("Reels of 320 by 200, %d frames. A lap is frames 2 to %d and the ring, and leads from frame 1's state back to it.\n",
+           SCENE_FRAMES, SCENE_FRAMES);
+    printf("%-8s %10s %10s %10s   %s\n", "reel", "frame 1", "bytes", "packets", "chunks in a lap");
+    for (enum scene scene = 0; scene < SCENES; scene++) {
+        struct state *states = scene_states(scene, 320, 200);
+        struct reel reel = built_reel(320, 200, SCENE_FRAMES, states);
+        FILE *file = created(words[1], scene, "flc"), *shown = created(words[1], scene, "states");
+        print_met(scene, &reel);
+        write_all(file, reel.bytes, reel.size);
+        write_states(shown, &reel, states);
+        if (fclose(file) != 0 || fclose(shown) != 0)
+            fail("a file can't be written", "check that there is room in target/bench");
+        free_states(states);
+        free_reel(&reel);
+    }
+    return 0;
+}

@@ -1,0 +1,142 @@
+/* Builds, loads and walks the reels of the benchmark. */
+#include "reel.h"
+
+#include <stdio.h>
+#include <stdlib.h>
+#include <string.h>
+
+#include "flic.h"
+
+void fail(const char *what, const char *so)
+{
+    fprintf(stderr, "bench: %s; %s\n", what, so);
+    exit(1);
+}
+
+void *room(size_t bytes)
+{
+    void *made = calloc(1, bytes);
+    if (made == NULL)
+        fail("there is not enough memory", "end other programs, or run it on a larger machine");
+    return made;
+}
+
+struct state blank_state(unsigned width, unsigned height)
+{
+    struct state state = {.picture = room((size_t)width * height)};
+    return state;
+}
+
+void free_state(struct state *state)
+{
+    free(state->picture);
+}
+
+struct state *scene_states(enum scene scene, unsigned width, unsigned height)
+{
+    struct state *states = room(SCENE_FRAMES * sizeof *states);
+    for (unsigned i = 0; i < SCENE_FRAMES; i++) {
+        states[i] = blank_state(width, height);
+        set_scene(scene, width, height, i, states[i].picture, states[i].palette);
+    }
+    return states;
+}
+
+void free_states(struct state *states)
+{
+    for (unsigned i = 0; i < SCENE_FRAMES; i++)
+        free_state(&states[i]);
+    free(states);
+}
+
+static flic_reel accepted(flic_reel_answer answer)
+{
+    if (answer.number != 0) {
+        char what[80];
+        snprintf(what, sizeof what, "a reel was refused with %u", (unsigned)answer.number);
+        fail(what, "see docs/REFUSALS.md");
+    }
+    return answer.reel;
+}
+
+size_t build_into(uint8_t *bytes, size_t length, unsigned width, unsigned height, unsigned frames,
+                  const struct state *states, const struct state *blank, struct state work[2])
+{
+    size_t n = (size_t)width * height;
+    flic_reel reel = accepted(flic_open_reel(width, height, 100, bytes, length));
+    const struct state *shown = blank;
+    for (unsigned i = 0; i < frames; i++) {
+        const struct state *next = &states[i % SCENE_FRAMES];
+        reel = accepted(flic_add_frame(reel, bytes, length, shown->picture, n, shown->palette, PALETTE,
+                                       next->picture, n, next->palette, PALETTE));
+        shown = next;
+    }
+    reel = accepted(flic_close_reel(reel, bytes, length, work[0].picture, n, work[0].palette, PALETTE,
+                                    work[1].picture, n, work[1].palette, PALETTE));
+    return reel.end;
+}
+
+static size_t size_at(const uint8_t *bytes)
+{
+    return bytes[0] | bytes[1] << 8 | bytes[2] << 16 | (size_t)bytes[3] << 24;
+}
+
+/* The frames of a built reel stand back to back. */
+static void find_offsets(struct reel *reel)
+{
+    size_t at = 128;
+    reel->offsets = room((reel->frames + 2) * sizeof *reel->offsets);
+    for (unsigned i = 0; i <= reel->frames; i++) {
+        reel->offsets[i] = at;
+        at += size_at(reel->bytes + at);
+    }
+    reel->offsets[reel->frames + 1] = at;
+}
+
+void check_bytes(const uint8_t *bytes, size_t size, size_t pixels, struct state work[2])
+{
+    flic_answer answer = flic_check_reel(bytes, size, work[0].picture, pixels, work[0].palette, PALETTE,
+                                         work[1].picture, pixels, work[1].palette, PALETTE);
+    if (answer.number != 0)
+        fail("flic_check_reel refuses a reel", "make it anew with bench/run; if that doesn't help, run ./test");
+}
+
+struct reel built_reel(unsigned width, unsigned height, unsigned frames, const struct state *states)
+{
+    struct reel reel = {.width = width, .height = height, .frames = frames};
+    struct state blank = blank_state(width, height), work[2] = {blank_state(width, height), blank_state(width, height)};
+    size_t most = 128 + (frames + (size_t)1) * FLIC_FRAME_MOST;
+    reel.bytes = room(most);
+    reel.size = build_into(reel.bytes, most, width, height, frames, states, &blank, work);
+    check_bytes(reel.bytes, reel.size, (size_t)width * height, work);
+    find_offsets(&reel);
+    free_state(&blank);
+    free_state(&work[0]);
+    free_state(&work[1]);
+    return reel;
+}
+
+/* The file is one that make_reels has checked. */
+struct reel loaded_reel(const char *name)
+{
+    struct reel reel = {0};
+    FILE *file = fopen(name, "rb");
+    if (file == NULL || fseek(file, 0, SEEK_END) != 0 || (reel.size = (size_t)ftell(file)) < 128)
+        fail("a reel's file can't be read", "make it with bench/run");
+    rewind(file);
+    reel.bytes = room(reel.size);
+    if (fread(reel.bytes, 1, reel.size, file) != reel.size)
+        fail("a reel's file can't be read whole", "make it with bench/run");
+    fclose(file);
+    reel.frames = reel.bytes[6] | reel.bytes[7] << 8;
+    reel.width = reel.bytes[8] | reel.bytes[9] << 8;
+    reel.height = reel.bytes[10] | reel.bytes[11] << 8;
+    find_offsets(&reel);
+    return reel;
+}
+
+void free_reel(struct reel *reel)
+{
+    free(reel->bytes);
+    free(reel->offsets);
+}

@@ -1,0 +1,101 @@
+/* The pictures of the five reels: each gives the chunks that it is named for, whatever the frame's number. */
+#include "scenes.h"
+
+const char *const scene_names[SCENES] = {"board", "dense", "text", "texture", "noise"};
+
+static uint32_t spread(uint32_t a, uint32_t b, uint32_t c)
+{
+    uint32_t z = a * 0x9E3779B1u ^ b * 0x85EBCA77u ^ c * 0xC2B2AE3Du;
+    z = (z ^ z >> 15) * 0x2C1B3C6Du;
+    z = (z ^ z >> 12) * 0x297A2D39u;
+    return z ^ z >> 15;
+}
+
+/* Letters of 5 by 7 in cells of 6 by 10, times size: 1 where there is ink. Every fifth letter is a blank. */
+static int ink(unsigned line, unsigned x, unsigned y, unsigned size)
+{
+    unsigned column = x / size % 6, row = y / size % 10, letter = spread(x / size / 6, line, 1);
+    if (letter % 5 == 0 || column == 5 || row > 6)
+        return 0;
+    return column == letter % 4 || (row == letter / 8 % 7 && column > 0) || (row == 0 && letter & 64);
+}
+
+/* Six lines of a dish and a price, and a lamp, laid out for 320 by 200 and scaled to other sizes. */
+static uint8_t board_pixel(unsigned x, unsigned y, unsigned i)
+{
+    unsigned line = y / 30;
+    unsigned shown = x >= 252 && x < 300 ? 100 + line + 8 * ((i + line) / 6 % 8) : line;
+    if (y >= 182 && y < 198 && x / 24 == i % 12)
+        return (uint8_t)(80 + (x + y) % 4);
+    return (uint8_t)(line < 6 && ink(shown, x, y % 30, 2) ? 65 + line : 16 + line % 2);
+}
+
+/* Each frame one price changes, the lamp of 24 by 16 moves on, and 32 colours fade. */
+static void set_board(unsigned width, unsigned height, unsigned i, uint8_t *picture, uint8_t *palette)
+{
+    for (unsigned y = 0; y < height; y++)
+        for (unsigned x = 0; x < width; x++)
+            picture[y * width + x] = board_pixel(x * 320 / width, y * 200 / height, i);
+    unsigned step = i % 24, light = step < 12 ? step : 24 - step;
+    for (unsigned k = 192; k < 288; k++)
+        palette[k] = (uint8_t)(20 * light + k % 16);
+}
+
+static uint8_t dense_pixel(unsigned at, unsigned i)
+{
+    unsigned altered = spread(at / 2, i, 3) % 16 == 0;
+    return (uint8_t)(spread(at, 0, 4) ^ (altered ? 1 + i % 255 : 0));
+}
+
+/* Letters of 10 by 14 on a ground whose colour goes up with them. */
+static uint8_t text_pixel(unsigned width, unsigned at, unsigned i)
+{
+    unsigned x = at % width, y = at / width + i, line = y / 20;
+    unsigned first = spread(line, 0, 5) % 96, after = 224 + spread(line, 0, 6) % 96;
+    return x >= first && x < after && ink(line, x, y, 2) ? 1 : (uint8_t)(16 + y % 64);
+}
+
+/* Runs of one to three pixels, most of them of three, new in every frame. */
+static void set_texture(unsigned width, unsigned height, unsigned i, uint8_t *picture)
+{
+    static const uint8_t lengths[8] = {1, 2, 2, 3, 3, 3, 3, 3};
+    for (unsigned y = 0; y < height; y++) {
+        unsigned left = 0, run = 0;
+        uint8_t pixel = 0;
+        for (unsigned x = 0; x < width; x++) {
+            if (left == 0) {
+                uint32_t drawn = spread(run++, y, i + 7);
+                left = lengths[drawn % 8];
+                pixel = (uint8_t)(drawn >> 8);
+            }
+            picture[y * width + x] = pixel;
+            left--;
+        }
+    }
+}
+
+void set_scene(enum scene scene, unsigned width, unsigned height, unsigned i, uint8_t *picture, uint8_t *palette)
+{
+    unsigned pixels = width * height;
+    for (unsigned k = 0; k < 768; k++)
+        palette[k] = (uint8_t)spread(k, 0, 2);
+    switch (scene) {
+    case BOARD:
+        set_board(width, height, i, picture, palette);
+        break;
+    case DENSE:
+        for (unsigned at = 0; at < pixels; at++)
+            picture[at] = dense_pixel(at, i);
+        break;
+    case TEXT:
+        for (unsigned at = 0; at < pixels; at++)
+            picture[at] = text_pixel(width, at, i);
+        break;
+    case TEXTURE:
+        set_texture(width, height, i, picture);
+        break;
+    default:
+        for (unsigned at = 0; at < pixels; at++)
+            picture[at] = (uint8_t)spread(at, i, 8);
+    }
+}

@@ -1,0 +1,348 @@
+/* The damage test for fuzzers: one input chooses an entry point, sizes and sides of guard pages, and is handed in.
+ * What holds without a model is checked; what doesn't hold aborts. Built for libFuzzer or AFL++ by tests/damage/run. */
+#include <flic.h>
+#include <stdio.h>
+#include <stdlib.h>
+#include <string.h>
+
+#include "guarded.h"
+
+enum { PALETTE = 768, HEADER = 128, PIXELS = 320 * 200, RING_STATES = 64, CHOICES = 12, MOST = 16384 };
+
+/* The bytes before those that are handed in. */
+enum { ENTRY, WIDTH, HEIGHT, SIDES, LENGTHS, ROOM, STATES, FRAMES, CLOSED, END, END_HIGH, SPEED };
+
+/* What the fuzzer is to look for, as the library has no counters of its own: answers, and how far into the bytes they
+ * came. libFuzzer reads this section; AFL++ sees how often the loops of meet are run in each function. */
+__attribute__((section("__libfuzzer_extra_counters"))) static uint8_t met[1024];
+
+__attribute__((always_inline)) static inline void meet(unsigned entry, uint32_t number, uint64_t place)
+{
+    volatile unsigned log = 0, times = 0;
+    while (place >> log && log < 31)
+        log++;
+    while (times < number)
+        times++;
+    met[entry * 32 + (number & 31)] = 1;
+    met[512 + ((entry * 19 + (number & 31)) * 31 + log) % 512] = 1;
+}
+
+static void must(int holds, const char *what)
+{
+    if (!holds) {
+        fprintf(stderr, "harness: %s\n", what);
+        abort();
+    }
+}
+
+static unsigned word(const uint8_t *bytes) { return bytes[0] | (unsigned)bytes[1] << 8; }
+static size_t size_of(const uint8_t *bytes) { return word(bytes) | (size_t)word(bytes + 2) << 16; }
+
+typedef struct {
+    const uint8_t *choices, *bytes;
+    size_t length;
+    uint64_t width, height;
+    /* The frame that is read and rewritten. */
+    const uint8_t *frame;
+    size_t frame_length;
+} input;
+
+/* A picture and a palette, lent, and what they held before. */
+typedef struct {
+    lent picture, palette;
+} pair;
+
+static uint8_t sides;
+
+static lent lend_next(const uint8_t *content, size_t length)
+{
+    lent slice = lend(content, length, sides & 1);
+    sides = (uint8_t)(sides >> 1 | sides << 7);
+    return slice;
+}
+
+/* The length of a picture or palette: as needed, longer, or seldom too short. */
+static size_t some_length(const input *in, size_t needed, unsigned bit)
+{
+    unsigned choice = in->choices[LENGTHS] >> bit & 3;
+    return choice == 3 && needed ? needed - 1 : needed + 5 * (choice == 2);
+}
+
+static size_t pixels_of(const input *in)
+{
+    return in->width <= 320 && in->height <= 200 ? (size_t)(in->width * in->height) : 64;
+}
+
+static pair lend_pair(const input *in, unsigned bit, unsigned step)
+{
+    static uint8_t content[PIXELS + PALETTE + 16];
+    uint8_t seed = (uint8_t)(in->choices[STATES] * step);
+    size_t picture = some_length(in, pixels_of(in), bit), palette = some_length(in, PALETTE, bit + 1);
+    for (size_t i = 0; i < (picture > palette ? picture : palette); i++)
+        content[i] = (uint8_t)(seed & 0x40 ? (i >> 3) * seed : seed);
+    return (pair){lend_next(content, picture), lend_next(content, palette)};
+}
+
+static int pair_unchanged(const pair *p) { return unchanged(&p->picture) && unchanged(&p->palette); }
+
+static int same_state(const input *in, const uint8_t *picture, const uint8_t *palette, const pair *wanted)
+{
+    return !memcmp(picture, wanted->picture.bytes, pixels_of(in)) && !memcmp(palette, wanted->palette.bytes, PALETTE);
+}
+
+/* Reads a frame against a pair's first contents; the state that it gives must be the wanted one's present contents. */
+static void reads_to(const input *in, const uint8_t *frame, size_t length, const pair *from, const pair *wanted)
+{
+    static uint8_t picture[PIXELS], palette[PALETTE];
+    memcpy(picture, from->picture.before, pixels_of(in));
+    memcpy(palette, from->palette.before, PALETTE);
+    flic_answer answer =
+        flic_read_frame(frame, length, in->width, in->height, picture, pixels_of(in), palette, PALETTE);
+    must(answer.number == 0, "a frame that was written is refused");
+    must(same_state(in, picture, palette, wanted), "a frame that was written gives another state");
+}
+
+static void read_frame(const input *in)
+{
+    lent frame = lend_next(in->frame, in->frame_length);
+    pair shown = lend_pair(in, 0, 1);
+    flic_answer answer = flic_read_frame(frame.bytes, frame.length, in->width, in->height, shown.picture.bytes,
+                                         shown.picture.length, shown.palette.bytes, shown.palette.length);
+    meet(0, answer.number, answer.place);
+    must(answer.place <= frame.length && answer.number <= 13, "an answer out of range");
+    must(unchanged(&frame), "a frame was changed by its reading");
+    must(answer.number == 0 || pair_unchanged(&shown), "a refused reading changed the state");
+    must(unchanged_from(&shown.picture, pixels_of(in)) && unchanged_from(&shown.palette, PALETTE),
+         "excess was changed");
+}
+
+/* Ample room, or up to 127 bytes. */
+static size_t some_room(const input *in, size_t most)
+{
+    return in->choices[ROOM] < 128 ? most : in->choices[ROOM] - 128u;
+}
+
+static void check_written(flic_written written, const lent *out)
+{
+    must(written.length <= out->length, "more was written than there is room for");
+    must(written.number == 0 || (written.length == 0 && unchanged(out)), "a refused writing changed the output");
+    must(unchanged_from(out, (size_t)written.length), "a byte past what was written was changed");
+}
+
+static void write_frame(const input *in)
+{
+    pair previous = lend_pair(in, 0, 1), next = lend_pair(in, 2, 3);
+    lent out = lend_next(NULL, some_room(in, FLIC_FRAME_MOST));
+    flic_written written = flic_write_frame(
+        in->width, in->height, previous.picture.bytes, previous.picture.length, previous.palette.bytes,
+        previous.palette.length, next.picture.bytes, next.picture.length, next.palette.bytes, next.palette.length,
+        out.bytes, out.length);
+    meet(1, written.number, written.length);
+    check_written(written, &out);
+    must(pair_unchanged(&previous) && pair_unchanged(&next), "a writing changed what it reads");
+    must(written.number != 3 || out.length < FLIC_FRAME_MOST, "FLIC_FRAME_MOST bytes are refused 3");
+    if (written.number == 0)
+        reads_to(in, out.bytes, (size_t)written.length, &previous, &next);
+}
+
+static void rewrite_frame(const input *in)
+{
+    lent frame = lend_next(in->frame, in->frame_length);
+    pair previous = lend_pair(in, 0, 1), work = lend_pair(in, 2, 3), again = lend_pair(in, 2, 5);
+    lent out = lend_next(NULL, some_room(in, FLIC_FRAME_MOST));
+    flic_written written = flic_rewrite_frame(
+        frame.bytes, frame.length, in->width, in->height, previous.picture.bytes, previous.picture.length,
+        previous.palette.bytes, previous.palette.length, work.picture.bytes, work.picture.length, work.palette.bytes,
+        work.palette.length, out.bytes, out.length);
+    meet(2, written.number, written.place);
+    check_written(written, &out);
+    must(unchanged(&frame) && pair_unchanged(&previous), "a rewriting changed what it reads");
+    must(written.number == 0 || written.number == 3 || pair_unchanged(&work), "a refused rewriting changed its pair");
+    if (written.number)
+        return;
+    reads_to(in, out.bytes, (size_t)written.length, &previous, &work);
+    lent first = lend_next(out.bytes, (size_t)written.length), second = lend_next(NULL, (size_t)written.length);
+    flic_written rewritten = flic_rewrite_frame(
+        first.bytes, first.length, in->width, in->height, previous.picture.bytes, previous.picture.length,
+        previous.palette.bytes, previous.palette.length, again.picture.bytes, again.picture.length,
+        again.palette.bytes, again.palette.length, second.bytes, second.length);
+    must(rewritten.number == 0 && rewritten.length == written.length,
+         "a frame in house form is rewritten to another length");
+    must(!memcmp(first.bytes, second.bytes, first.length), "a frame in house form is rewritten to other bytes");
+}
+
+/* Plays a reel that was accepted three laps: each frame shows in each lap what it showed in the first. */
+static void play(const input *in)
+{
+    static uint8_t picture[PIXELS], palette[PALETTE], pictures[RING_STATES][PIXELS], palettes[RING_STATES][PALETTE];
+    size_t frames = word(in->bytes + 6), pixels = pixels_of(in);
+    size_t starts[RING_STATES + 1], count = 0, place = HEADER;
+    if (frames >= RING_STATES)
+        return;
+    for (; count <= frames; place += size_of(in->bytes + place))
+        if (word(in->bytes + place + 4) == 0xF1FA)
+            starts[count++] = place;
+    memset(picture, 0, sizeof picture);
+    memset(palette, 0, sizeof palette);
+    for (unsigned lap = 0; lap < 3; lap++)
+        for (size_t frame = lap ? 1 : 0; frame <= frames; frame++) {
+            const uint8_t *bytes = in->bytes + starts[frame];
+            flic_answer answer =
+                flic_read_frame(bytes, size_of(bytes), in->width, in->height, picture, pixels, palette, PALETTE);
+            must(answer.number == 0, "a frame of an accepted reel is refused");
+            uint8_t *its_picture = pictures[frame % frames], *its_palette = palettes[frame % frames];
+            if (lap || frame == frames)
+                must(!memcmp(its_picture, picture, pixels) && !memcmp(its_palette, palette, PALETTE),
+                     "a lap shows another state");
+            memcpy(its_picture, picture, pixels);
+            memcpy(its_palette, palette, PALETTE);
+        }
+}
+
+static void check_reel(const input *in)
+{
+    lent reel = lend_next(in->bytes, in->length);
+    pair first = lend_pair(in, 0, 1), second = lend_pair(in, 2, 3);
+    flic_answer answer = flic_check_reel(reel.bytes, reel.length, first.picture.bytes, first.picture.length,
+                                         first.palette.bytes, first.palette.length, second.picture.bytes,
+                                         second.picture.length, second.palette.bytes, second.palette.length);
+    meet(3, answer.number, answer.place);
+    must(answer.place <= reel.length && answer.number <= 16 && answer.number != 3, "an answer out of range");
+    must(unchanged(&reel), "a reel was changed by its check");
+    must(answer.number != 1 || (pair_unchanged(&first) && pair_unchanged(&second)), "refusal 1 changed a pair");
+    if (answer.number == 0) {
+        must(same_state(in, first.picture.bytes, first.palette.bytes, &second), "an accepted reel's pairs differ");
+        play(in);
+    }
+}
+
+static void open_reel(const input *in)
+{
+    lent bytes = lend_next(in->bytes, in->length);
+    uint32_t speed = in->choices[SPEED] * 16843009u;
+    flic_reel_answer answer = flic_open_reel(in->width, in->height, speed, bytes.bytes, bytes.length);
+    meet(4, answer.number, 0);
+    must(unchanged_from(&bytes, answer.number ? 0 : HEADER), "an open changed a byte that isn't its own");
+    must(answer.number ? answer.reel.end == 0 && answer.reel.width == 0
+                       : answer.reel.end == HEADER && answer.reel.frames == 0 && answer.reel.closed == 0,
+         "an open gives another record");
+}
+
+static flic_reel record(const input *in)
+{
+    uint64_t end = word(in->choices + END);
+    if (end == 65535)
+        end = in->length;
+    return (flic_reel){in->width, in->height, in->choices[FRAMES], end, in->choices[CLOSED] > 250};
+}
+
+static int same_record(flic_reel a, flic_reel b)
+{
+    return a.width == b.width && a.height == b.height && a.frames == b.frames && a.end == b.end && a.closed == b.closed;
+}
+
+static void add_frame(const input *in)
+{
+    static uint8_t room[MOST + FLIC_FRAME_MOST];
+    flic_reel reel = record(in);
+    memcpy(room, in->bytes, in->length);
+    lent bytes = lend_next(room, in->length + some_room(in, FLIC_FRAME_MOST));
+    pair shown = lend_pair(in, 0, 1), next = lend_pair(in, 2, 3);
+    flic_reel_answer answer = flic_add_frame(reel, bytes.bytes, bytes.length, shown.picture.bytes, shown.picture.length,
+                                             shown.palette.bytes, shown.palette.length, next.picture.bytes,
+                                             next.picture.length, next.palette.bytes, next.palette.length);
+    meet(5, answer.number, answer.reel.end - reel.end);
+    must(pair_unchanged(&shown) && pair_unchanged(&next), "an add changed what it reads");
+    if (answer.number) {
+        must(unchanged(&bytes) && same_record(answer.reel, reel), "a refused add changed bytes or record");
+        return;
+    }
+    must(answer.reel.frames == reel.frames + 1 && answer.reel.end <= bytes.length, "an add gives another record");
+    must(!memcmp(bytes.bytes, bytes.before, (size_t)reel.end), "an add changed bytes before its frame");
+    must(unchanged_from(&bytes, (size_t)answer.reel.end), "an add changed bytes past its frame");
+    reads_to(in, bytes.bytes + reel.end, (size_t)(answer.reel.end - reel.end), &shown, &next);
+}
+
+static void close_reel(const input *in)
+{
+    static uint8_t room[MOST + FLIC_FRAME_MOST];
+    flic_reel reel = record(in);
+    memcpy(room, in->bytes, in->length);
+    lent bytes = lend_next(room, in->length + some_room(in, FLIC_FRAME_MOST));
+    pair first = lend_pair(in, 0, 1), second = lend_pair(in, 2, 3);
+    flic_reel_answer answer = flic_close_reel(
+        reel, bytes.bytes, bytes.length, first.picture.bytes, first.picture.length, first.palette.bytes,
+        first.palette.length, second.picture.bytes, second.picture.length, second.palette.bytes, second.palette.length);
+    meet(6, answer.number, answer.place);
+    if (answer.number) {
+        must(unchanged(&bytes) && same_record(answer.reel, reel), "a refused close changed bytes or record");
+        return;
+    }
+    must(answer.reel.closed && answer.reel.end <= bytes.length, "a close gives another record");
+    must(unchanged_from(&bytes, (size_t)answer.reel.end), "a close changed bytes past the ring");
+    const uint8_t *header = bytes.bytes;
+    if (word(header + 4) != 0xAF12 || word(header + 8) != reel.width || word(header + 10) != reel.height ||
+        word(header + 12) != 8)
+        return; /* The header isn't that of an open of this size. */
+    flic_answer checked = flic_check_reel(
+        bytes.bytes, (size_t)answer.reel.end, first.picture.bytes, first.picture.length, first.palette.bytes,
+        first.palette.length, second.picture.bytes, second.picture.length, second.palette.bytes, second.palette.length);
+    must(checked.number == 0, "a closed reel is refused");
+}
+
+static void check_trailer(const input *in)
+{
+    lent bytes = lend_next(in->bytes, in->length);
+    flic_answer answer = flic_check_trailer(bytes.bytes, bytes.length);
+    meet(7, answer.number, answer.place);
+    must(answer.place <= bytes.length && answer.number <= 17, "an answer out of range");
+    must(unchanged(&bytes), "a check changed the trailer");
+}
+
+static void write_trailer(const input *in)
+{
+    static uint8_t room[MOST + 65536];
+    memcpy(room, in->bytes, in->length);
+    lent bytes = lend_next(room, in->length + some_room(in, 16100));
+    flic_written written = flic_write_trailer(bytes.bytes, bytes.length);
+    meet(8, written.number, written.place);
+    must(written.length <= bytes.length, "more was written than there is room for");
+    must(unchanged_from(&bytes, (size_t)written.length), "a byte past the trailer, or of a refused call, was changed");
+    if (written.number)
+        return;
+    must(!memcmp(bytes.bytes, bytes.before, size_of(bytes.before)), "a trailer changed the reel");
+    must(flic_check_trailer(bytes.bytes, (size_t)written.length).number == 0, "a trailer that was written is refused");
+}
+
+static void list(const input *in)
+{
+    lent bytes = lend_next(in->bytes, in->length), out = lend_next(NULL, some_room(in, FLIC_LIST_MOST));
+    flic_written written = flic_list(bytes.bytes, bytes.length, out.bytes, out.length);
+    meet(9, written.number, written.length);
+    must(written.number == 0 || written.number == 3, "a listing gives another refusal than 3");
+    must(written.number == 0 || out.length < FLIC_LIST_MOST, "FLIC_LIST_MOST bytes are refused 3");
+    check_written(written, &out);
+    must(unchanged(&bytes), "a listing changed the file");
+    must(written.number || (written.length && out.bytes[written.length - 1] == '\n'), "a listing doesn't end its line");
+}
+
+int LLVMFuzzerTestOneInput(const uint8_t *data, size_t size)
+{
+    static void (*const entries[])(const input *) = {read_frame, write_frame, rewrite_frame, check_reel,    open_reel,
+                                                     add_frame,  close_reel,  check_trailer, write_trailer, list};
+    if (size < CHOICES || size - CHOICES > MOST)
+        return 0;
+    input in = {data, data + CHOICES, size - CHOICES, data[WIDTH], data[HEIGHT], data + CHOICES, size - CHOICES};
+    if (in.length > HEADER && word(in.bytes + 4) == 0xAF12) {
+        /* A reel: its own size, and its first frame. */
+        in.frame += HEADER;
+        in.frame_length -= HEADER;
+        in.width = word(in.bytes + 8);
+        in.height = word(in.bytes + 10);
+    }
+    sides = data[SIDES];
+    lend_anew();
+    entries[data[ENTRY] % 10](&in);
+    must(neighbours_hold(), "a byte beside a lent slice was written");
+    return 0;
+}

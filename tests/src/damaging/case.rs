@@ -1,0 +1,123 @@
+//! One case of the damage run: what all ten entry points are handed, and the file in which it is kept.
+
+use flic_tests::model::reel::Reel;
+use flic_tests::states::State;
+use std::ops::Range;
+
+/// What the calls of one case are made from.
+#[derive(Clone, Debug, PartialEq, Eq)]
+pub struct Case {
+    /// Gives the bytes that an output holds before the call, and the sides on which guard pages stand.
+    pub seed: u64,
+    /// The size that is handed to the calls on frames, and to an open.
+    pub width: u64,
+    pub height: u64,
+    pub speed: u32,
+    /// The record that is handed to an add and to a close.
+    pub reel: Reel,
+    /// The lengths of a frame's output and of a listing's.
+    pub frame_room: usize,
+    pub list_room: usize,
+    /// Where in the bytes the frame stands that is read and rewritten.
+    pub frame: Range<usize>,
+    /// What shows, the previous state, or the first working pair.
+    pub first: State,
+    /// What comes next, or the second working pair.
+    pub second: State,
+    /// The reel.
+    pub bytes: Vec<u8>,
+}
+
+const MARK: [u8; 8] = *b"FLICdmg1";
+const NUMBERS: usize = 18;
+
+/// How many bytes the file of a case has before its slices.
+const HEADER: usize = MARK.len() + 8 * NUMBERS;
+
+impl Case {
+    fn slices(&self) -> [&[u8]; 5] {
+        [&self.first.picture, &self.first.palette, &self.second.picture, &self.second.palette, &self.bytes]
+    }
+
+    fn numbers(&self) -> [u64; NUMBERS] {
+        let Reel { width, height, frames, end, closed } = self.reel;
+        let lengths = self.slices().map(|slice| slice.len() as u64);
+        [
+            self.seed,
+            self.width,
+            self.height,
+            self.speed.into(),
+            width,
+            height,
+            frames,
+            end,
+            closed.into(),
+            self.frame_room as u64,
+            self.list_room as u64,
+            self.frame.start as u64,
+            self.frame.end as u64,
+            lengths[0],
+            lengths[1],
+            lengths[2],
+            lengths[3],
+            lengths[4],
+        ]
+    }
+
+    /// The case as a file: a mark, the numbers in 8 bytes each, then the slices.
+    pub fn file(&self) -> Vec<u8> {
+        let mut file = MARK.to_vec();
+        file.extend(self.numbers().iter().flat_map(|number| number.to_le_bytes()));
+        self.slices().iter().for_each(|slice| file.extend(*slice));
+        file
+    }
+
+    /// The frame that is read and rewritten.
+    pub fn frame_bytes(&self) -> &[u8] {
+        &self.bytes[self.frame.clone()]
+    }
+
+    /// The case that a file holds; bytes after it are left.
+    pub fn of_file(file: &[u8]) -> Result<Case, String> {
+        if file.len() < HEADER || file[..MARK.len()] != MARK {
+            return Err("this isn't the file of a case".to_string());
+        }
+        let mut numbers = [0; NUMBERS];
+        for (number, bytes) in numbers.iter_mut().zip(file[MARK.len()..].chunks_exact(8)) {
+            *number = u64::from_le_bytes(bytes.try_into().expect("a chunk of 8 bytes"));
+        }
+        let mut rest = &file[HEADER..];
+        let mut slice = |length: u64| {
+            let length = usize::try_from(length).ok().filter(|length| *length <= rest.len());
+            let (taken, left) = rest.split_at(length.ok_or("the file of a case is cut")?);
+            rest = left;
+            Ok::<Vec<u8>, String>(taken.to_vec())
+        };
+        let first = State { picture: slice(numbers[13])?, palette: slice(numbers[14])? };
+        let second = State { picture: slice(numbers[15])?, palette: slice(numbers[16])? };
+        let bytes = slice(numbers[17])?;
+        let frame = numbers[11] as usize..numbers[12] as usize;
+        if frame.start > frame.end || frame.end > bytes.len() {
+            return Err("the frame of this case stands outside its bytes".to_string());
+        }
+        Ok(Case {
+            seed: numbers[0],
+            width: numbers[1],
+            height: numbers[2],
+            speed: numbers[3] as u32,
+            reel: Reel {
+                width: numbers[4],
+                height: numbers[5],
+                frames: numbers[6],
+                end: numbers[7],
+                closed: numbers[8] as u32,
+            },
+            frame_room: numbers[9] as usize,
+            list_room: numbers[10] as usize,
+            frame,
+            first,
+            second,
+            bytes,
+        })
+    }
+}

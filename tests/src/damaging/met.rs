@@ -1,0 +1,55 @@
+//! What a damage run has met: how often each entry point was called, and what it answered.
+
+use super::compare::{Entry, ENTRIES};
+use std::collections::{BTreeMap, BTreeSet};
+
+/// The refusals of document 01's table.
+const REFUSALS: std::ops::RangeInclusive<u32> = 1..=18;
+
+#[derive(Default)]
+pub struct Met {
+    pub cases: u64,
+    numbers: BTreeMap<(Entry, u32), u64>,
+}
+
+impl Met {
+    pub fn count(&mut self, entry: Entry, number: u32) {
+        *self.numbers.entry((entry, number)).or_default() += 1;
+    }
+
+    pub fn calls(&self) -> u64 {
+        self.numbers.values().sum()
+    }
+
+    fn refusals(&self) -> BTreeSet<u32> {
+        self.numbers.keys().map(|(_, number)| *number).filter(|number| *number != 0).collect()
+    }
+
+    /// The refusals that no call gave.
+    pub fn missing(&self) -> Vec<u32> {
+        REFUSALS.filter(|number| !self.refusals().contains(number)).collect()
+    }
+
+    /// One line for each entry point: its calls, those that were done, and the refusals with their numbers.
+    pub fn print(&self) {
+        for entry in ENTRIES {
+            let answers: Vec<(u32, u64)> =
+                self.numbers.iter().filter(|((of, _), _)| *of == entry).map(|((_, n), times)| (*n, *times)).collect();
+            let calls: u64 = answers.iter().map(|(_, times)| times).sum();
+            let done: u64 = answers.iter().filter(|(number, _)| *number == 0).map(|(_, times)| times).sum();
+            let refused: Vec<String> = answers
+                .iter()
+                .filter(|(number, _)| *number != 0)
+                .map(|(number, times)| format!("{number}: {times}"))
+                .collect();
+            println!("  {:13} {calls:9} calls, {done:9} done; refused {}", entry.name(), refused.join(", "));
+        }
+    }
+
+    /// The last line of a good run.
+    pub fn summary(&self) -> String {
+        let met = self.refusals().len();
+        let Met { cases, .. } = self;
+        format!("{cases} cases, {} calls, {met} of 18 refusals met, 0 differences", self.calls())
+    }
+}
