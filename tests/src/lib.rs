@@ -2,6 +2,7 @@
 
 pub mod behind;
 pub mod boundary;
+pub mod c_functions;
 pub mod cases;
 pub mod command;
 pub mod compare;

@@ -1,24 +1,7 @@
 //! The library's `flic_write_frame`.
 
-use flic_tests::boundary::FlicWritten;
+use flic_tests::c_functions::flic_write_frame;
 use flic_tests::model::encode::Shown;
-
-extern "C" {
-    fn flic_write_frame(
-        width: u64,
-        height: u64,
-        previous_picture: *const u8,
-        previous_picture_length: usize,
-        previous_palette: *const u8,
-        previous_palette_length: usize,
-        next_picture: *const u8,
-        next_picture_length: usize,
-        next_palette: *const u8,
-        next_palette_length: usize,
-        out: *mut u8,
-        out_length: usize,
-    ) -> FlicWritten;
-}
 
 /// Writes a frame and gives its length.
 pub fn write_frame(width: usize, height: usize, previous: Shown, next: Shown, out: &mut [u8]) -> usize {
