@@ -52,4 +52,4 @@ pub use place::{part_of, Part};
 pub use reel::{Reel, MOST_FRAMES};
 pub use refusal::{Refusal, Refused, Result};
 pub use state::{Palette, Picture, Size, State, PALETTE};
-pub use trailer::{check_trailer, write_trailer};
+pub use trailer::{check_trailer, write_trailer, TRAILER_MOST};

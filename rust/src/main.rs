@@ -9,7 +9,7 @@ use std::ffi::OsString;
 use std::process::ExitCode;
 use tool::arguments::{hint, Arguments};
 use tool::failure::{misused, Failure, Outcome};
-use tool::say::say;
+use tool::say::{complain, say};
 
 fn main() -> ExitCode {
     let mut words = env::args_os().skip(1);
@@ -54,19 +54,22 @@ fn help() -> String {
     for command in &commands::ALL {
         text += &format!("  {:8} {}\n", command.name, command.summary);
     }
-    text + "\nflic COMMAND --help says more. Exit status: 0 done, 1 refused or failed, 2 wrong usage.\n"
+    text + "
+flic COMMAND --help says more. Exit status: 0 done, 1 refused or failed, 2 wrong usage.
+A file is written under a temporary name first, .NAME.NUMBER.tmp; one that an interrupted run left can be removed.
+"
 }
 
 /// Says on standard error what went wrong, and for a wrong command line what would be right.
 fn tell(failure: &Failure, name: Option<&OsString>) {
     match failure {
         Failure::Said => {}
-        Failure::Wrong(words) => eprintln!("flic: {words}"),
+        Failure::Wrong(words) => complain(&format!("flic: {words}")),
         Failure::Usage(words) => {
-            eprintln!("flic: {words}");
+            complain(&format!("flic: {words}"));
             match name.and_then(|name| command_named(&name.to_string_lossy())) {
-                Some(command) => eprintln!("{}\nflic {} --help says more", command.usage(), command.name),
-                None => eprintln!("usage: flic COMMAND ..\nflic --help lists the commands"),
+                Some(command) => complain(&format!("{}\nflic {} --help says more", command.usage(), command.name)),
+                None => complain("usage: flic COMMAND ..\nflic --help lists the commands"),
             }
         }
     }

@@ -3,7 +3,8 @@
 use std::error::Error;
 use std::fmt;
 
-/// Why a call was refused, under the names and numbers of docs/REFUSALS.md.
+/// Why a call was refused, under the names and numbers of docs/REFUSALS.md; [`meaning`](Refusal::meaning) and
+/// [`advice`](Refusal::advice) say in words what each is and what to do.
 #[derive(Clone, Copy, Debug, PartialEq, Eq, Hash, PartialOrd, Ord)]
 #[non_exhaustive]
 #[repr(u32)]
@@ -121,6 +122,12 @@ impl fmt::Display for Refusal {
 }
 
 /// A refused call: nothing was changed.
+///
+/// ```
+/// let refused = flic::check_reel(&[0; 200]).unwrap_err();
+/// let text = "refused 5 at offset 0: this isn't a FLC file, or not a frame of one; check which file it is";
+/// assert_eq!(refused.to_string(), text);
+/// ```
 #[derive(Clone, Copy, Debug, PartialEq, Eq, Hash)]
 pub struct Refused {
     pub refusal: Refusal,

@@ -2,10 +2,13 @@
 
 use crate::boundary;
 use crate::header::Header;
+use crate::reel::MOST_FRAMES;
 use crate::refusal::{Refusal, Result};
 
 const ENTRY: usize = 4;
 const TRAILER: usize = 8;
+/// No index and trailer have more bytes.
+pub const TRAILER_MOST: usize = ENTRY * (MOST_FRAMES + 1) + TRAILER;
 
 /// Checks what stands behind a reel: nothing, or its index and trailer; anything else is refused 17.
 /// Opens no frame: a damaged one is found by [`check_reel`](crate::check_reel).
@@ -71,6 +74,15 @@ mod tests {
             assert_eq!(file, right, "{behind}");
         }
         check_trailer(&right)
+    }
+
+    #[test]
+    fn the_longest_trailer() -> Result<()> {
+        let bare = reel(MOST_FRAMES);
+        let mut file = bare.clone();
+        write_trailer(&mut file)?;
+        assert_eq!(file.len(), bare.len() + TRAILER_MOST);
+        Ok(())
     }
 
     #[test]

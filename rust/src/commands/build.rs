@@ -14,7 +14,7 @@ use std::path::{Path, PathBuf};
 pub const COMMAND: Command = Command {
     name: "build",
     summary: "makes a reel from pictures",
-    help: "usage: flic build OUT --speed MS [--trailer] IMAGE..
+    help: "usage: flic build OUT --speed MS [--trailer] PICTURE..
 
 Makes the reel OUT, which shows the pictures in their order and leads back to the first. A picture is a PPM (P6, P3)
 or PGM (P5, P2) file with levels up to 255 and at most 256 colours; all are of one size within 320 by 200.
@@ -33,7 +33,7 @@ fn run(arguments: Arguments) -> Outcome {
     };
     let Some((out, images)) = arguments.files.split_first() else { return misused("OUT is missing".to_string()) };
     if images.is_empty() {
-        return misused(format!("no IMAGE is given: name the pictures behind {}", out.display()));
+        return misused(format!("no PICTURE is given: name the pictures behind {}", out.display()));
     }
     if images.len() > MOST_FRAMES {
         return wrong(format!("{} pictures are too many: a reel takes {MOST_FRAMES}", images.len()));
@@ -46,7 +46,8 @@ fn run(arguments: Arguments) -> Outcome {
         refused::accepted(out, &bytes, written)?;
     }
     files::write(out, &bytes)?;
-    say(&format!("{}: {} frames and the ring, {} bytes\n", out.display(), images.len(), bytes.len()))
+    let frames = if images.len() == 1 { "frame" } else { "frames" };
+    say(&format!("{}: {} {frames} and the ring, {} bytes\n", out.display(), images.len(), bytes.len()))
 }
 
 fn built(out: &Path, images: &[PathBuf], speed: u32) -> Outcome<Vec<u8>> {
@@ -70,7 +71,7 @@ fn built(out: &Path, images: &[PathBuf], speed: u32) -> Outcome<Vec<u8>> {
     }
     match reel {
         Some(reel) => refused::accepted(out, &[], reel.close()),
-        None => misused("no IMAGE is given".to_string()),
+        None => misused("no PICTURE is given".to_string()),
     }
 }
 

@@ -4,7 +4,7 @@ use super::Command;
 use crate::tool::arguments::Arguments;
 use crate::tool::failure::{misused, Failure, Outcome};
 use crate::tool::progress::Progress;
-use crate::tool::say::say;
+use crate::tool::say::{complain, say};
 use crate::tool::{files, refused};
 use flic::{check_reel, check_trailer, Header};
 use std::path::Path;
@@ -16,7 +16,7 @@ pub const COMMAND: Command = Command {
 
 Plays every frame and the ring of each file, and checks what stands behind the reel, if anything does.
 Prints 'FILE: ok', or the refusal's number, its offset, the frame in which it lies, and what to do.
-Exit status 1 if any file is refused or can't be read.
+A file may be of any size. Exit status 1 if any file is refused or can't be read.
 ",
     options: &[],
     run,
@@ -35,7 +35,7 @@ fn run(arguments: Arguments) -> Outcome {
             }
             Err(Failure::Wrong(words)) => {
                 all_right = false;
-                eprintln!("flic: {words}");
+                complain(&format!("flic: {words}"));
             }
             Err(other) => return Err(other),
         }
@@ -50,7 +50,7 @@ fn run(arguments: Arguments) -> Outcome {
 /// Whether the file is right, and the line that says so.
 fn line(file: &Path) -> Outcome<(bool, String)> {
     let _progress = Progress::new(format!("checking {}", file.display()), 0);
-    let bytes = files::read(file)?;
+    let bytes = files::read_reel(file)?;
     Ok(match checked(&bytes) {
         Ok(()) => (true, format!("{}: ok\n", file.display())),
         Err(why) => (false, refused::line(file, &bytes, why) + "\n"),

@@ -21,6 +21,8 @@ or is empty. Lap 1 begins with frame 1, every further lap with frame 2, since th
 
     lap1-0001.ppm  lap1-0002.ppm  lap1-0003-ring.ppm  lap2-0002.ppm  lap2-0003-ring.ppm
 
+Leave the ring out where a reel is built from them again: lap1-*[0-9].ppm are the frames of a lap.
+
   --laps N   how many laps to play (1)
 ",
     options: &[Opt { name: "--laps", takes_value: true }],
@@ -30,8 +32,11 @@ or is empty. Lap 1 begins with frame 1, every further lap with frame 2, since th
 fn run(arguments: Arguments) -> Outcome {
     let laps = arguments.number("--laps", 1)?.unwrap_or(1) as usize;
     let [file, directory] = arguments.exactly(["FILE", "DIR"])?;
-    let bytes = files::read(&file)?;
-    let reel = refused::accepted(&file, &bytes, CheckedReel::new(&bytes))?;
+    let progress = Progress::new(format!("checking {}", file.display()), 0);
+    let bytes = files::read_reel(&file)?;
+    let reel = CheckedReel::new(&bytes);
+    drop(progress);
+    let reel = refused::accepted(&file, &bytes, reel)?;
     make_empty(&directory)?;
     let count = laps.saturating_mul(usize::from(reel.header().frames)).saturating_add(1);
     let progress = Progress::new(format!("writing pictures to {}", directory.display()), count);
@@ -51,15 +56,18 @@ fn name(frame: &Frame, laps: usize) -> String {
 }
 
 fn make_empty(directory: &Path) -> Outcome {
-    let entries = match fs::read_dir(directory) {
-        Ok(mut entries) => entries.next().is_some(),
-        Err(_) => fs::create_dir(directory).map(|()| false).or_else(|error| {
+    let Ok(mut entries) = fs::read_dir(directory) else {
+        return fs::create_dir(directory).or_else(|error| {
             let advice = files::advice(&error);
             wrong(format!("{}: the directory can't be made: {error}{advice}", directory.display()))
-        })?,
+        });
     };
-    match entries {
-        true => wrong(format!("{}: isn't empty: give a new or an empty directory", directory.display())),
-        false => Ok(()),
+    match entries.next() {
+        Some(Ok(entry)) => {
+            let (directory, held) = (directory.display(), entry.file_name());
+            wrong(format!("{directory}: isn't empty, it holds {}: give a new or an empty directory", held.display()))
+        }
+        Some(Err(error)) => wrong(format!("{}: can't be read: {error}{}", directory.display(), files::advice(&error))),
+        None => Ok(()),
     }
 }

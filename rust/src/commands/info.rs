@@ -6,7 +6,7 @@ use crate::tool::failure::Outcome;
 use crate::tool::progress::Progress;
 use crate::tool::say::say;
 use crate::tool::{files, refused};
-use flic::{check_trailer, CheckedReel, Header, FILE_HEADER, FRAME, FRAME_HEADER};
+use flic::{check_trailer, CheckedReel, Header, Refusal, Refused, FILE_HEADER, FRAME, FRAME_HEADER};
 use std::collections::BTreeMap;
 
 pub const COMMAND: Command = Command {
@@ -15,7 +15,7 @@ pub const COMMAND: Command = Command {
     help: "usage: flic info FILE
 
 Prints the fields of the file header, then how many chunks of each kind there are and how many bytes they take.
-The bytes sum up to the file's. A refused file's header is shown if it has one, with exit status 1.
+The bytes sum up to the file's. Of a refused FLC file the header is shown, if it is whole, with exit status 1.
 ",
     options: &[],
     run,
@@ -27,7 +27,8 @@ fn run(arguments: Arguments) -> Outcome {
     let bytes = files::read(&file)?;
     let reel = CheckedReel::new(&bytes);
     drop(progress);
-    if let Some(header) = Header::of(&bytes) {
+    let is_flc = !matches!(reel, Err(Refused { refusal: Refusal::WrongType, .. }));
+    if let Some(header) = Header::of(&bytes).filter(|_| is_flc) {
         say(&fields(&header))?;
     }
     let reel = refused::accepted(&file, &bytes, reel)?;

@@ -14,7 +14,8 @@ pub const COMMAND: Command = Command {
     help: "usage: flic rewrite IN OUT
 
 Writes the reel IN anew as OUT, in house form: the same pictures, palettes and speed, and a trailer if IN has one.
-Other chunks and dates aren't kept. OUT may be IN, and is replaced only if it is a FLC file.
+Other chunks, dates, and bytes behind the reel that aren't its trailer aren't kept.
+OUT may be IN, and is replaced only if it is a FLC file.
 ",
     options: &[],
     run,
@@ -22,8 +23,11 @@ Other chunks and dates aren't kept. OUT may be IN, and is replaced only if it is
 
 fn run(arguments: Arguments) -> Outcome {
     let [file, out] = arguments.exactly(["IN", "OUT"])?;
+    let progress = Progress::new(format!("checking {}", file.display()), 0);
     let before = files::read(&file)?;
-    let reel = refused::accepted(&file, &before, CheckedReel::new(&before))?;
+    let reel = CheckedReel::new(&before);
+    drop(progress);
+    let reel = refused::accepted(&file, &before, reel)?;
     files::may_be_replaced(&out)?;
     let has_trailer = before.len() > reel.header().size as usize && check_trailer(&before).is_ok();
 

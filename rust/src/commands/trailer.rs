@@ -3,6 +3,7 @@
 use super::Command;
 use crate::tool::arguments::Arguments;
 use crate::tool::failure::{misused, wrong, Outcome};
+use crate::tool::progress::Progress;
 use crate::tool::say::say;
 use crate::tool::{files, refused};
 use flic::{check_trailer, write_trailer, Header};
@@ -32,7 +33,9 @@ fn run(arguments: Arguments) -> Outcome {
 }
 
 fn check(file: &Path) -> Outcome {
-    let bytes = files::read(file)?;
+    let progress = Progress::new(format!("reading {}", file.display()), 0);
+    let bytes = files::read_reel(file)?;
+    drop(progress);
     match check_trailer(&bytes) {
         Ok(()) if behind(&bytes) == 0 => say(&format!("{}: ok, without a trailer\n", file.display())),
         Ok(()) => say(&format!("{}: ok, a trailer of {} bytes\n", file.display(), behind(&bytes))),
@@ -41,7 +44,9 @@ fn check(file: &Path) -> Outcome {
 }
 
 fn write(file: &Path) -> Outcome {
+    let progress = Progress::new(format!("reading {}", file.display()), 0);
     let mut bytes = files::read(file)?;
+    drop(progress);
     let before = bytes.len();
     let was_right = check_trailer(&bytes).is_ok();
     let written = write_trailer(&mut bytes);
@@ -50,6 +55,7 @@ fn write(file: &Path) -> Outcome {
         true => String::new(),
         false => format!(", in place of {} bytes that weren't its trailer", before - (bytes.len() - behind(&bytes))),
     };
+    files::may_be_replaced(file)?;
     files::write(file, &bytes)?;
     say(&format!("{}: a trailer of {} bytes{replaced}\n", file.display(), behind(&bytes)))
 }

@@ -2,7 +2,7 @@
 
 use super::failure::{misused, Outcome};
 use std::ffi::{OsStr, OsString};
-use std::path::PathBuf;
+use std::path::{Path, PathBuf};
 
 /// An option that a command knows.
 pub struct Opt {
@@ -45,7 +45,11 @@ impl Arguments {
         };
         let Some(option) = options.iter().find(|option| option.name == name) else {
             let names: Vec<&str> = options.iter().map(|option| option.name).chain(["--help"]).collect();
-            return misused(format!("there is no option {name}{}", hint(name, &names)));
+            let file = match Path::new(text).exists() {
+                true => format!("; if the file is meant, write ./{text}"),
+                false => String::new(),
+            };
+            return misused(format!("there is no option {name}{}{file}", hint(name, &names)));
         };
         let value = match (option.takes_value, attached) {
             (false, Some(_)) => return misused(format!("{name} takes no value")),

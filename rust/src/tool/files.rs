@@ -1,6 +1,8 @@
 //! Files: read whole, and written so that a failure leaves what was there.
 
 use super::failure::{wrong, Outcome};
+use super::progress::Progress;
+use flic::{Header, FILE_HEADER, TRAILER_MOST};
 use std::ffi::OsString;
 use std::fs::{self, File, OpenOptions};
 use std::io::{self, ErrorKind, Read, Write};
@@ -8,32 +10,58 @@ use std::path::{Path, PathBuf};
 use std::process;
 
 pub fn read(file: &Path) -> Outcome<Vec<u8>> {
-    fs::read(file).or_else(|error| wrong(format!("{}: can't be read: {error}{}", file.display(), advice(&error))))
+    fs::read(file).or_else(|error| unreadable(file, &error))
+}
+
+/// Reads what the check of a file depends on: the reel, as long as its header says, and what stands behind it, but no
+/// more of that than one byte over the longest trailer.
+pub fn read_reel(file: &Path) -> Outcome<Vec<u8>> {
+    reel_in(file).or_else(|error| unreadable(file, &error))
+}
+
+fn reel_in(file: &Path) -> io::Result<Vec<u8>> {
+    let (source, mut bytes) = (File::open(file)?, Vec::new());
+    (&source).take(FILE_HEADER as u64).read_to_end(&mut bytes)?;
+    let end = Header::of(&bytes).map_or(0, |header| u64::from(header.size) + TRAILER_MOST as u64 + 1);
+    source.take(end.saturating_sub(FILE_HEADER as u64)).read_to_end(&mut bytes)?;
+    Ok(bytes)
+}
+
+fn unreadable<T>(file: &Path, error: &io::Error) -> Outcome<T> {
+    wrong(format!("{}: can't be read: {error}{}", file.display(), advice(error)))
 }
 
 /// Puts the bytes into a temporary file beside the target, which then takes the target's name.
 pub fn write(target: &Path, bytes: &[u8]) -> Outcome {
+    let _progress = Progress::new(format!("writing {}", target.display()), 0);
     put(target, bytes).or_else(|error| {
         let kept = if target.exists() { "; what was there is as it was" } else { "; nothing was written" };
         wrong(format!("{}: can't be written: {error}{}{kept}", target.display(), advice(&error)))
     })
 }
 
-/// Refuses a target whose loss would be noticed: anything but a FLC file.
+/// Refuses a target whose loss would be noticed: anything but a FLC file that may be written.
 pub fn may_be_replaced(target: &Path) -> Outcome {
-    let Ok(about) = fs::metadata(target) else { return Ok(()) };
-    if about.is_dir() {
-        return wrong(format!("{}: is a directory: give the name of a file", target.display()));
-    }
-    if !about.is_file() {
-        return wrong(format!("{}: isn't an ordinary file: give another name", target.display()));
-    }
+    let why = match fs::metadata(target) {
+        Err(_) if !target.is_symlink() => return Ok(()),
+        Err(_) => "is a link that leads nowhere: give another name, or remove it first",
+        Ok(about) if about.is_dir() => "is a directory: give the name of a file",
+        Ok(about) if !about.is_file() => "isn't an ordinary file: give another name",
+        Ok(about) if about.permissions().readonly() => {
+            "is write-protected: make it writable first, or give another name"
+        }
+        Ok(_) if is_flc_or_empty(target)? => return Ok(()),
+        Ok(_) => "is there already and isn't a FLC file: give another name, or remove it first",
+    };
+    wrong(format!("{}: {why}", target.display()))
+}
+
+fn is_flc_or_empty(file: &Path) -> Outcome<bool> {
     let mut front = Vec::new();
-    let read = File::open(target).and_then(|file| file.take(6).read_to_end(&mut front));
-    if read.is_ok() && (front.is_empty() || front.ends_with(&[0x12, 0xAF])) {
-        return Ok(());
+    match File::open(file).and_then(|file| file.take(6).read_to_end(&mut front)) {
+        Ok(_) => Ok(front.is_empty() || front.ends_with(&[0x12, 0xAF])),
+        Err(error) => unreadable(file, &error),
     }
-    wrong(format!("{}: is there already and isn't a FLC file: give another name, or remove it first", target.display()))
 }
 
 fn put(target: &Path, bytes: &[u8]) -> io::Result<()> {
@@ -73,10 +101,12 @@ fn temporary_beside(target: &Path) -> io::Result<(PathBuf, File)> {
 /// What to do about an error, as the end of a sentence.
 pub fn advice(error: &io::Error) -> &'static str {
     match error.kind() {
-        ErrorKind::NotFound => "; check the name and the directory",
+        ErrorKind::NotFound | ErrorKind::NotADirectory => "; check the name and the directory",
+        ErrorKind::AlreadyExists => "; give another name",
         ErrorKind::PermissionDenied => "; check who may read and write there",
         ErrorKind::IsADirectory => "; give the name of a file",
         ErrorKind::StorageFull => "; make room first",
+        ErrorKind::OutOfMemory => "; it is larger than the memory that is free",
         ErrorKind::ReadOnlyFilesystem => "; give a place that can be written to",
         _ => "",
     }

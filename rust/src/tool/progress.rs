@@ -8,6 +8,9 @@ use std::time::{Duration, Instant};
 
 const PATIENCE: Duration = Duration::from_secs(1);
 const INTERVAL: Duration = Duration::from_millis(200);
+/// How much of a long name is shown: a line wider than the terminal couldn't be wiped away.
+const FRONT: usize = 16;
+const BACK: usize = 30;
 
 /// Shows itself from the first second on, and is wiped away when it is dropped.
 pub struct Progress {
@@ -27,7 +30,7 @@ impl Progress {
     /// `total` is how many steps there will be; 0 where they can't be counted.
     pub fn new(what: String, total: usize) -> Progress {
         let (done, is_over, bell) = (AtomicUsize::new(0), Mutex::new(false), Condvar::new());
-        let shared = Arc::new(Shared { what, done, total, is_over, bell });
+        let shared = Arc::new(Shared { what: short(what), done, total, is_over, bell });
         let line = io::stderr().is_terminal().then(|| {
             let shared = Arc::clone(&shared);
             thread::spawn(move || shared.show())
@@ -83,9 +86,27 @@ impl Shared {
     }
 }
 
+fn short(what: String) -> String {
+    let letters: Vec<char> = what.chars().collect();
+    if letters.len() <= FRONT + BACK {
+        return what;
+    }
+    let (front, back) = (&letters[..FRONT], &letters[letters.len() - BACK..]);
+    format!("{}[..]{}", String::from_iter(front), String::from_iter(back))
+}
+
 #[cfg(test)]
 mod tests {
     use super::*;
+
+    #[test]
+    fn a_line_has_room_on_a_terminal() {
+        let what = format!("building {}menu.flc", "boards/".repeat(30));
+        let text = Progress::new(what, 4_000).shared.text(Duration::from_secs(10_000));
+        assert_eq!(text, "building boards/[..]/boards/boards/boards/menu.flc .. 0 of 4000, 10000 s");
+        let what = "building menu.flc".to_string();
+        assert_eq!(Progress::new(what.clone(), 0).shared.what, what);
+    }
 
     #[test]
     fn steps_are_counted() {

@@ -1,4 +1,4 @@
-//! Standard output: a reader that has gone away ends the command quietly.
+//! Standard output, where a reader that has gone away ends the command quietly, and standard error.
 
 use super::failure::{wrong, Failure, Outcome};
 use std::io::{self, ErrorKind, Write};
@@ -10,4 +10,9 @@ pub fn say(text: &str) -> Outcome {
         Err(error) if error.kind() == ErrorKind::BrokenPipe => Err(Failure::Said),
         Err(error) => wrong(format!("standard output can't be written: {error}")),
     }
+}
+
+/// Says on standard error what is wrong; where that can't be written, no one is there to be told.
+pub fn complain(text: &str) {
+    let _ = writeln!(io::stderr(), "{text}");
 }

@@ -2,7 +2,7 @@
 
 use std::fs;
 use std::path::{Path, PathBuf};
-use std::process::{self, Command};
+use std::process::{self, Command, Output};
 use std::sync::atomic::{AtomicUsize, Ordering};
 
 pub struct Bench {
@@ -14,6 +14,16 @@ pub struct Run {
     pub status: i32,
     pub out: String,
     pub err: String,
+}
+
+impl Run {
+    pub fn of(output: Output) -> Run {
+        Run {
+            status: output.status.code().unwrap(),
+            out: String::from_utf8(output.stdout).unwrap(),
+            err: String::from_utf8(output.stderr).unwrap(),
+        }
+    }
 }
 
 impl Bench {
@@ -64,14 +74,25 @@ impl Bench {
         names
     }
 
+    /// Makes a file longer without filling the disk: what is added has bytes of 0.
+    pub fn lengthen(&self, name: &str, length: u64) {
+        fs::OpenOptions::new().write(true).open(self.path(name)).unwrap().set_len(length).unwrap();
+    }
+
+    pub fn protect(&self, name: &str) {
+        let mut permissions = fs::metadata(self.path(name)).unwrap().permissions();
+        permissions.set_readonly(true);
+        fs::set_permissions(self.path(name), permissions).unwrap();
+    }
+
     pub fn run(&self, words: &[&str]) -> Run {
-        let output =
-            Command::new(env!("CARGO_BIN_EXE_flic")).args(words).current_dir(&self.directory).output().unwrap();
-        Run {
-            status: output.status.code().unwrap(),
-            out: String::from_utf8(output.stdout).unwrap(),
-            err: String::from_utf8(output.stderr).unwrap(),
-        }
+        Run::of(self.command(words).output().unwrap())
+    }
+
+    pub fn command(&self, words: &[&str]) -> Command {
+        let mut command = Command::new(env!("CARGO_BIN_EXE_flic"));
+        command.args(words).current_dir(&self.directory);
+        command
     }
 
     /// What the tool says where it must succeed.

@@ -2,6 +2,7 @@
 
 use crate::bench::Bench;
 use crate::pictures::{pictures, ppm};
+use std::os::unix::fs::symlink;
 
 #[test]
 fn says_what_was_made() {
@@ -67,7 +68,7 @@ fn wrong_pictures_are_named() {
 #[test]
 fn what_is_missing_is_wrong_usage() {
     let bench = Bench::with_pictures(&pictures(1));
-    assert!(bench.fails(2, &["build", "reel.flc", "--speed", "70"]).starts_with("flic: no IMAGE is given"));
+    assert!(bench.fails(2, &["build", "reel.flc", "--speed", "70"]).starts_with("flic: no PICTURE is given"));
     assert!(bench.fails(2, &["build", "--speed", "70"]).starts_with("flic: OUT is missing"));
     assert!(bench.fails(2, &["build", "reel.flc", "1.ppm"]).starts_with("flic: --speed MS is missing"));
     assert!(bench.fails(2, &["build", "reel.flc", "1.ppm", "--speed", "fast"]).contains("not fast"));
@@ -104,6 +105,25 @@ fn only_a_reel_is_replaced() {
     bench.write("bad.ppm", b"P6");
     bench.fails(1, &["build", "reel.flc", "--speed", "70", "2.ppm", "bad.ppm"]);
     assert_eq!(bench.read("reel.flc"), before);
-    bench.done(&["build", "reel.flc", "--speed", "70", "2.ppm"]);
-    assert_ne!(bench.read("reel.flc"), before);
+    let said = bench.done(&["build", "reel.flc", "--speed", "70", "2.ppm"]);
+    let after = bench.read("reel.flc");
+    assert_eq!(said, format!("reel.flc: 1 frame and the ring, {} bytes\n", after.len()));
+    assert_ne!(after, before);
+}
+
+#[test]
+fn what_may_not_be_written_or_read_is_not_replaced() {
+    let bench = Bench::with_reel(&pictures(2));
+    let before = bench.read("reel.flc");
+    bench.protect("reel.flc");
+    let error = |out: &str| bench.fails(1, &["build", out, "--speed", "70", "2.ppm"]);
+    assert!(error("reel.flc").starts_with("flic: reel.flc: is write-protected: "));
+    assert_eq!(bench.read("reel.flc"), before);
+
+    symlink("missing.flc", bench.path("link.flc")).unwrap();
+    assert!(error("link.flc").starts_with("flic: link.flc: is a link that leads nowhere: "));
+    assert!(bench.path("link.flc").is_symlink());
+
+    // A file that no one can read from its front.
+    assert!(error("/proc/self/mem").starts_with("flic: /proc/self/mem: can't be read: "));
 }

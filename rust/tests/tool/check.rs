@@ -71,6 +71,18 @@ fn what_stands_behind_the_reel_is_checked() {
 }
 
 #[test]
+fn a_file_of_any_size_is_checked_and_played() {
+    let bench = Bench::with_reel(&pictures(2));
+    let frames = bench.frames("reel.flc", "1");
+    bench.lengthen("reel.flc", 1 << 40);
+    assert_eq!(bench.frames("reel.flc", "1"), frames);
+    let run = bench.run(&["check", "reel.flc"]);
+    assert!(run.out.starts_with("reel.flc: refused 17 at offset 0, in the trailer: "), "{}{}", run.out, run.err);
+    let err = bench.fails(1, &["trailer", "check", "reel.flc"]);
+    assert!(err.starts_with("flic: reel.flc: refused 17 at offset 0, in the trailer: "), "{err}");
+}
+
+#[test]
 fn every_file_is_told_of() {
     let bench = Bench::with_reel(&pictures(2));
     bench.write("empty.flc", b"");

@@ -2,6 +2,7 @@
 
 use crate::bench::Bench;
 use crate::pictures::pictures;
+use std::fs;
 
 #[test]
 fn two_laps_show_the_pictures_that_went_in() {
@@ -40,13 +41,16 @@ fn a_refused_reel_makes_no_directory() {
 #[test]
 fn a_directory_that_holds_something_is_left_alone() {
     let bench = Bench::with_reel(&pictures(2));
-    bench.done(&["frames", "reel.flc", "out"]);
-    bench.write("out/lap1-0001.ppm", b"mine");
+    fs::create_dir(bench.path("out")).unwrap();
+    bench.write("out/.hidden", b"mine");
     let err = bench.fails(1, &["frames", "reel.flc", "out"]);
-    assert_eq!(err, "flic: out: isn't empty: give a new or an empty directory\n");
-    assert_eq!(bench.read("out/lap1-0001.ppm"), b"mine");
+    assert_eq!(err, "flic: out: isn't empty, it holds .hidden: give a new or an empty directory\n");
+    assert_eq!((bench.names("out"), bench.read("out/.hidden")), (vec![".hidden".to_string()], b"mine".to_vec()));
     let err = bench.fails(1, &["frames", "reel.flc", "no/such"]);
     assert!(err.starts_with("flic: no/such: the directory can't be made: "), "{err}");
+    let err = bench.fails(1, &["frames", "reel.flc", "1.ppm"]);
+    assert!(err.starts_with("flic: 1.ppm: the directory can't be made: "), "{err}");
+    assert!(err.ends_with("; give another name\n"), "{err}");
 }
 
 #[test]

@@ -23,6 +23,14 @@ fn fields_and_shares() {
 }
 
 #[test]
+fn what_is_no_reel_has_no_header() {
+    let bench = Bench::with_pictures(&pictures(1));
+    let run = bench.run(&["info", "1.ppm"]);
+    assert_eq!((run.status, run.out.as_str()), (1, ""));
+    assert!(run.err.starts_with("flic: 1.ppm: refused 5 at offset 0, in the file header: "), "{}", run.err);
+}
+
+#[test]
 fn a_refused_file_shows_its_header() {
     let bench = Bench::with_reel(&pictures(3));
     let mut bytes = bench.read("reel.flc");

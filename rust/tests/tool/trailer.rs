@@ -43,6 +43,16 @@ fn a_damaged_reel_stays_as_it_is() {
 }
 
 #[test]
+fn a_reel_that_is_write_protected_stays_as_it_is() {
+    let bench = Bench::with_reel(&pictures(2));
+    let before = bench.read("reel.flc");
+    bench.protect("reel.flc");
+    let err = bench.fails(1, &["trailer", "write", "reel.flc"]);
+    assert_eq!(err, "flic: reel.flc: is write-protected: make it writable first, or give another name\n");
+    assert_eq!(bench.read("reel.flc"), before);
+}
+
+#[test]
 fn other_tasks_are_wrong_usage() {
     let bench = Bench::with_reel(&pictures(1));
     assert!(bench.fails(2, &["trailer", "remove", "reel.flc"]).starts_with("flic: remove isn't check or write\n"));

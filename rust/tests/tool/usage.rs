@@ -1,6 +1,8 @@
 //! The command line itself: help, and what is wrong with it.
 
-use crate::bench::Bench;
+use crate::bench::{Bench, Run};
+use crate::pictures::pictures;
+use std::fs::OpenOptions;
 
 const COMMANDS: [&str; 7] = ["check", "info", "list", "frames", "build", "rewrite", "trailer"];
 
@@ -43,4 +45,17 @@ fn a_file_whose_name_looks_like_an_option() {
     let run = bench.run(&["check", "--", "--help"]);
     assert_eq!(run.status, 1);
     assert!(run.out.starts_with("--help: refused 4 at offset 0"), "{}", run.out);
+    bench.write("-1.flc", b"");
+    let err = bench.fails(2, &["check", "-1.flc"]);
+    assert!(err.starts_with("flic: there is no option -1.flc; if the file is meant, write ./-1.flc\n"), "{err}");
+}
+
+#[test]
+fn the_rest_is_done_where_standard_error_is_full() {
+    let bench = Bench::with_reel(&pictures(1));
+    let full = || OpenOptions::new().write(true).open("/dev/full").unwrap();
+    let run = |words: &[&str]| Run::of(bench.command(words).stderr(full()).output().unwrap());
+    let checked = run(&["check", "missing.flc", "reel.flc"]);
+    assert_eq!((checked.status, checked.out.as_str()), (1, "reel.flc: ok\n"));
+    assert_eq!((run(&["info", "missing.flc"]).status, run(&["chek"]).status), (1, 2));
 }
