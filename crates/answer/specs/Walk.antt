@@ -31,3 +31,8 @@ onward ws (Fault e) k = record { writes = ws; verdict = Fault e }
 -- one walk, and then another from where its data ended
 abbrev pub followed : Walk → (ℕ → Walk) → Walk
 followed w k = onward (w .writes) (w .verdict) k
+
+-- no fault was met: what the playing pass requires and the checking pass shows
+abbrev pub Ended : Verdict → Type 0
+Ended (Ends at) = Unit {0}
+Ended (Fault e) = ⊥

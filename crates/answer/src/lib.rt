@@ -82,6 +82,12 @@ pub enum Verdict {
     Fault(Refusal),
 }
 
+// A packet that was played: how many pixels it has, and how many bytes of data.
+pub struct Played {
+    pub pixels: usize,
+    pub bytes: usize,
+}
+
 // Done, or a refusal with its place.
 pub enum Answer {
     Done,

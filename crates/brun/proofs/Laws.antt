@@ -6,13 +6,14 @@ use Prim.Native.Nat.{ℕ, suc, zero, _≤_, _<_, _+_, _-_, _*_}
 use native.Mathlib.Nat.{not-suc-le-zero, le-of-suc-le-suc}
 use native.Mathlib.Numerals.{sub-one}
 use native.Mathlib.Omega.{arith}
-use borrow.Author.Tests.{le-leb, lt-leb, lt-ltb, le-ltb, ltb-true, ltb-false, leb-true}
+use borrow.Author.Tests.{le-leb, lt-leb, lt-ltb, le-ltb, ltb-true, ltb-false, leb-true, leb-false}
 use lib.ListN.{length, drop, take, getD, replicate, length-drop, length-replicate, length-append}
 use lib.Seq.{length-take-le}
 use lib.Dec.{leb, ltb}
 use Rattle.words.specs.Words.{pick, magnitude}
 use Rattle.words.specs.Writes.{put, written}
 use Rattle.words.proofs.Laws.{magnitude-plus, magnitude-minus, put-append, row-in, Inside}
+use Rattle.answer.specs.Walk.{Ended}
 use Rattle.answer.proofs.Laws.{VerdictIn, fault-not-end}
 use Rattle.answer.specs.declared.Refusal.{Refusal}
 use Rattle.answer.specs.declared.Refusal.the-variants.{BodyEnds, ZeroCount, PastWidth}
@@ -112,6 +113,33 @@ module _ (b : List ℕ) where
       packets-as left at h (Pixels t n end) q
       ∙ ap (λ (r : Run). before (pixels b (at + 1) t) r) (packets-skip (left - 1) (n - 1) end (omega arith) ∙ ap (λ (k : ℕ). packets b k 0 end) e)
 
+  -- of packets that meet no fault the first is whole
+
+  pub record First (left at : ℕ) : Type 0 where
+    pub whole : packetAt b at left ≡ Pixels (getD b at 0) (magnitude (getD b at 0)) (at + 1 + dataBytes (getD b at 0))
+    pub some : 1 ≤ magnitude (getD b at 0)
+    pub fits : magnitude (getD b at 0) ≤ left
+    pub in-body : at + 1 + dataBytes (getD b at 0) ≤ length b
+
+  pub packets-first : (left at : ℕ) → 0 < left → Ended (packets b left 0 at .verdict) → First left at
+  packets-first left at h e =
+      go (leb (at + 1) (length b)) (leb 1 (magnitude (getD b at 0))) (leb (magnitude (getD b at 0)) left) (leb (at + 1 + dataBytes (getD b at 0)) (length b)) refl refl refl refl
+    where
+      met : {C : Type 0} {r : Refusal} → packetAt b at left ≡ Fault r → C
+      met q = absurd (subst (λ (k : Run). Ended (k .verdict)) (packets-stop left at h _ q) e)
+
+      go : (p q r s : Bool) → leb (at + 1) (length b) ≡ p → leb 1 (magnitude (getD b at 0)) ≡ q → leb (magnitude (getD b at 0)) left ≡ r
+          → leb (at + 1 + dataBytes (getD b at 0)) (length b) ≡ s → First left at
+      go true true true true i j k l =
+          let z = leb-true _ _ j in
+          let m = leb-true _ _ k in
+          let n = leb-true _ _ l in
+          record { whole = packet-whole b at left (leb-true _ _ i) z m n; some = z; fits = m; in-body = n }
+      go true true true false i j k l = met (packet-short b at left (leb-true _ _ i) (leb-true _ _ j) (leb-true _ _ k) (leb-false _ _ l))
+      go true true false s i j k l = met (packet-past b at left (leb-true _ _ i) (leb-true _ _ j) (leb-false _ _ k))
+      go true false r s i j k l = met (packet-zero b at left (leb-true _ _ i) (leb-false _ _ j))
+      go false q r s i j k l = met (packet-cut b at left (leb-false _ _ i))
+
 -- a row
 
 module _ (w : ℕ) (b : List ℕ) (at : ℕ) where
@@ -122,6 +150,14 @@ module _ (w : ℕ) (b : List ℕ) (at : ℕ) where
   pub row-open : at + 1 ≤ length b → row w b at ≡ packets b w 0 (at + 1)
   unfolding row
   row-open h = simp (le-leb (at + 1) (length b) h)
+
+  -- a row that meets no fault has its ignored byte
+  pub row-there : Ended (row w b at .verdict) → at + 1 ≤ length b
+  row-there e = go (leb (at + 1) (length b)) refl
+    where
+      go : (c : Bool) → leb (at + 1) (length b) ≡ c → at + 1 ≤ length b
+      go true i = leb-true _ _ i
+      go false i = absurd (subst (λ (k : Run). Ended (k .verdict)) (row-cut (leb-false _ _ i)) e)
 
 -- rows
 
@@ -140,6 +176,14 @@ module _ (w : ℕ) (b : List ℕ) where
   pub rows-stop : (h at : ℕ) → 0 < h → (e : Refusal) → row w b at .verdict ≡ verdict.Fault e
       → rows w b h at ≡ record { pixels = row w b at .pixels; verdict = verdict.Fault e }
   rows-stop h at k e q = rows-as h at k (verdict.Fault e) q
+
+  -- of rows that meet no fault the first meets none
+  pub rows-first : (h at : ℕ) → 0 < h → Ended (rows w b h at .verdict) → Ended (row w b at .verdict)
+  rows-first h at k e = go (row w b at .verdict) refl
+    where
+      go : (v : Verdict) → row w b at .verdict ≡ v → Ended v
+      go (verdict.Ends end) q = tt
+      go (verdict.Fault r) q = subst (λ (k : Run). Ended (k .verdict)) (rows-stop h at k r q) e
 
   pub rows-more : (h at : ℕ) → 0 < h → (end : ℕ) → row w b at .verdict ≡ verdict.Ends end → rows w b h at ≡ before (row w b at .pixels) (rows w b (h - 1) end)
   rows-more h at k end q = rows-as h at k (verdict.Ends end) q
@@ -269,6 +313,11 @@ brun-verdict w h b = refl
 pub brun-written : (w h : ℕ) (b d : List ℕ) → written (brun w h b .writes) d ≡ put d 0 (rows w b h 0 .pixels)
 unfolding brun written
 brun-written w h b d = refl
+
+-- a picture that meets no fault is of rows that meet none
+pub brun-ended : (w h : ℕ) (b : List ℕ) → Ended (brun w h b .verdict) → Ended (rows w b h 0 .verdict)
+unfolding brun
+brun-ended w h b e = e
 
 abbrev pub shown : List ℕ → ℕ → Run → List ℕ
 shown d to r = put d to (r .pixels)

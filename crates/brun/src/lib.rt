@@ -1,10 +1,12 @@
 // Reading kind 15, BRUN: document 01, "Frames, chunks and rows".
-// A check writes nothing; a play does the writes that come before the first fault.
+// A check writes nothing; a play does the writes of a body that the check accepts.
 ghost use mathlib.Core.Path.{_≡_};
 ghost use Prim.Native.Nat.{_+_, _*_, _≤_};
 ghost use lib.ListN.{length};
 ghost use Rattle.words.specs.Words.{magnitude};
 ghost use Rattle.words.specs.Writes.{put, written};
+ghost use Rattle.answer.specs.Walk.{Ended};
+ghost use Rattle.answer.specs.declared.Verdict.the-variants.{Ends};
 ghost use Rattle.brun.specs.Brun.{dataBytes, pixels, packetAt, row, brun};
 
 // A packet: a fault, or its type, how many pixels it gives and the offset after its data.
@@ -13,14 +15,8 @@ pub enum Packet {
     Pixels { kind: u8, count: usize, end: usize },
 }
 
-// How many bytes of data follow the type t.
-fn data_len(t: u8) -> usize
-    ensures { λ r. ⌜ (r ≡ dataBytes t) × (r ≤ 128) ⌝ }
-{
-    if t < 128 { 1 } else { 256 - words::wide(t) }
-}
-
-// The packet at offset at, where left columns are left.
+// The packet at offset at, where left columns are left. A copy and a repeat have each their own tests: what the processor foresees
+// of the type tells it where a repeat ends.
 fn packet_at(body: &[u8], at: usize, left: usize) -> Packet
     requires { ⌜ at ≤ length (now body) ⌝ }
     ensures { λ r. ⌜ r ≡ packetAt (now (body .entry)) at left ⌝ }
@@ -29,21 +25,34 @@ fn packet_at(body: &[u8], at: usize, left: usize) -> Packet
         return Packet::Fault(answer::Refusal::BodyEnds);
     }
     let kind = body[at];
-    let count = words::magnitude_of(kind);
+    if kind >= 128 {
+        let len = 256 - words::wide(kind);
+        if left < len {
+            return Packet::Fault(answer::Refusal::PastWidth);
+        }
+        if body.len() - at - 1 < len {
+            return Packet::Fault(answer::Refusal::BodyEnds);
+        }
+        return Packet::Pixels {
+            kind,
+            count: len,
+            end: at + 1 + len,
+        };
+    }
+    let count = words::wide(kind);
     if count < 1 {
         return Packet::Fault(answer::Refusal::ZeroCount);
     }
     if left < count {
         return Packet::Fault(answer::Refusal::PastWidth);
     }
-    let len = data_len(kind);
-    if body.len() - at - 1 < len {
+    if body.len() - at < 2 {
         return Packet::Fault(answer::Refusal::BodyEnds);
     }
     Packet::Pixels {
         kind,
         count,
-        end: at + 1 + len,
+        end: at + 2,
     }
 }
 
@@ -75,52 +84,49 @@ fn check_row(body: &[u8], from: usize, width: usize) -> answer::Verdict
     answer::Verdict::Ends(at)
 }
 
-// Writes the pixels of a packet whose data is at offset at, as many as part has.
-fn put_pixels(part: &mut [u8], body: &[u8], at: usize, kind: u8)
-    requires { ⌜ (at + dataBytes kind ≤ length (now body)) × (length (now part) ≡ magnitude kind) ⌝ }
-    ensures { λ _. ⌜ now (part .exit) ≡ pixels (now (body .entry)) at kind ⌝ }
+// Writes the pixels of a packet of this type, whose data is at offset at, from index to on.
+fn play_packet(picture: &mut [u8], body: &[u8], kind: u8, at: usize, to: usize) -> answer::Played
+    requires { ⌜ (at + dataBytes kind ≤ length (now body)) × (to + magnitude kind ≤ length (now picture)) ⌝ }
+    ensures lengths { λ r. ⌜ (r .pixels ≡ magnitude kind) × (r .bytes ≡ dataBytes kind) ⌝ }
+    ensures writes { λ _. ⌜ now (picture .exit) ≡ put (now (picture .entry)) to (pixels (now (body .entry)) at kind) ⌝ }
 {
     if kind < 128 {
-        words::fill(part, body[at]);
-    } else {
-        let end = at + (256 - words::wide(kind));
-        words::copy(part, &body[at..end]);
+        let n = words::wide(kind);
+        let stop = to + n;
+        words::fill(&mut picture[to..stop], body[at]);
+        return answer::Played {
+            pixels: n,
+            bytes: 1,
+        };
+    }
+    let n = 256 - words::wide(kind);
+    let stop = to + n;
+    let end = at + n;
+    words::copy(&mut picture[to..stop], &body[at..end]);
+    answer::Played {
+        pixels: n,
+        bytes: n,
     }
 }
 
-// Writes the row at offset from to the picture, from index place on.
-fn play_row(
-    picture: &mut [u8],
-    body: &[u8],
-    from: usize,
-    width: usize,
-    place: usize,
-) -> answer::Verdict
-    requires { ⌜ (from ≤ length (now body)) × (place + width ≤ length (now picture)) ⌝ }
-    ensures verdict { λ r. ⌜ r ≡ row width (now (body .entry)) from .verdict ⌝ }
+// Writes the row at offset from to the picture, from index place on. The check has accepted it: nothing is tested again. Returns the
+// offset where its data ends.
+fn play_row(picture: &mut [u8], body: &[u8], from: usize, width: usize, place: usize) -> usize
+    requires { ⌜ (place + width ≤ length (now picture)) × Ended (row width (now body) from .verdict) ⌝ }
+    ensures verdict { λ r. ⌜ row width (now (body .entry)) from .verdict ≡ Ends r ⌝ }
     ensures writes { λ _. ⌜ now (picture .exit) ≡ put (now (picture .entry)) place (row width (now (body .entry)) from .pixels) ⌝ }
 {
-    if body.len() - from < 1 {
-        return answer::Verdict::Fault(answer::Refusal::BodyEnds);
-    }
     let mut at = from + 1;
     let mut left = width;
     let mut to = place;
     while left > 0 {
-        match packet_at(body, at, left) {
-            Packet::Fault(e) => {
-                return answer::Verdict::Fault(e);
-            }
-            Packet::Pixels { kind, count, end } => {
-                let stop = to + count;
-                put_pixels(&mut picture[to..stop], body, at + 1, kind);
-                to = stop;
-                left -= count;
-                at = end;
-            }
-        }
+        let data = at + 1;
+        let played = play_packet(picture, body, body[at], data, to);
+        to = to + played.pixels;
+        left = left - played.pixels;
+        at = data + played.bytes;
     }
-    answer::Verdict::Ends(at)
+    at
 }
 
 // Checks a body, for a picture of this width and height.
@@ -145,20 +151,13 @@ pub fn check_brun(body: &[u8], width: usize, height: usize) -> answer::Verdict
 
 // Does the writes of a body on a picture of this width and height.
 pub fn play_brun(picture: &mut [u8], body: &[u8], width: usize, height: usize)
-    requires { ⌜ width * height ≤ length (now picture) ⌝ }
+    requires { ⌜ (width * height ≤ length (now picture)) × Ended (brun width height (now body) .verdict) ⌝ }
     ensures { λ _. ⌜ now (picture .exit) ≡ written (brun width height (now (body .entry)) .writes) (now (picture .entry)) ⌝ }
 {
     let mut at = 0;
     let mut row = 0;
     while row < height {
-        match play_row(picture, body, at, width, row * width) {
-            answer::Verdict::Fault(_) => {
-                return;
-            }
-            answer::Verdict::Ends(end) => {
-                at = end;
-                row += 1;
-            }
-        }
+        at = play_row(picture, body, at, width, row * width);
+        row += 1;
     }
 }

@@ -19,11 +19,12 @@ use Rattle.answer.specs.declared.Verdict.the-variants as verdict
 use Rattle.answer.specs.declared.Answer.{Answer}
 use Rattle.answer.specs.declared.Answer.the-variants.{Done, Refused}
 use Rattle.answer.specs.Answer.{sizeOk}
+use Rattle.answer.specs.Walk.{Ended}
 use Rattle.answer.proofs.Laws.{both-true}
 use Rattle.answer.specs.Format.{FRAME-TYPE}
 use Rattle.frame.specs.declared.FrameHeader.{FrameHeader}
 use Rattle.frame.specs.declared.FrameHeader.the-variants as whole
-use Rattle.frame.specs.Frame.{frameHeader, afterFrameHeader, skipped, subChunk, FrameWalk, stop, headerAt, settle, followed, afterHeader, subChunks, frame}
+use Rattle.frame.specs.Frame.{frameHeader, afterFrameHeader, skipped, ChunkWalk, subChunk, FrameWalk, stop, headerAt, settle, followed, afterHeader, subChunks, frame}
 use Rattle.frame.specs.Reading.{outcome, enough, settled, readFrame}
 use Rattle.frame.specs.declared.Header.{Header}
 use Rattle.frame.specs.declared.Header.the-variants.{Fault, Chunk}
@@ -69,6 +70,9 @@ module _ (w h kind : ℕ) (b : List ℕ) where
   pub chunk-is : (k : ℕ) → kind ≡ k → subChunk w h kind b ≡ subChunk w h k b
   chunk-is k e = ap (λ (x : ℕ). subChunk w h x b) e
 
+  pub chunk-ended : (k : ℕ) → kind ≡ k → Ended (subChunk w h kind b .verdict) → Ended (subChunk w h k b .verdict)
+  chunk-ended k e i = subst (λ (c : ChunkWalk). Ended (c .verdict)) (chunk-is k e) i
+
   pub chunk-other : (kind ≡ 4 → ⊥) → (kind ≡ 7 → ⊥) → (kind ≡ 11 → ⊥) → (kind ≡ 12 → ⊥) → (kind ≡ 13 → ⊥) → (kind ≡ 15 → ⊥) → (kind ≡ 16 → ⊥)
       → subChunk w h kind b ≡ skipped b
   unfolding subChunk
@@ -104,7 +108,23 @@ module _ (w h : ℕ) (b : List ℕ) where
     pub chunks-good : (d : ℕ) → subChunk w h kind (part b (at + 6) end) .verdict ≡ verdict.Ends d → subChunks w h b n at .answer ≡ subChunks w h b (n - 1) end .answer
     chunks-good d v = ap (λ (f : FrameWalk). f .answer) (chunks-more n at i kind end q) ∙ ap ans v
 
--- what sub-subChunks write
+    -- of sub-chunks that are accepted the first meets no fault, and the others are accepted
+
+    pub chunks-first : subChunks w h b n at .answer ≡ Done → Ended (subChunk w h kind (part b (at + 6) end) .verdict)
+    chunks-first d = go (subChunk w h kind (part b (at + 6) end) .verdict) refl
+      where
+        go : (v : Verdict) → subChunk w h kind (part b (at + 6) end) .verdict ≡ v → Ended v
+        go (verdict.Ends k) v = tt
+        go (verdict.Fault e) v = let r = chunks-bad e v in let z : _≡_ {A = ℕ} 0 1 = cc in absurd (omega arith)
+
+    pub chunks-rest : subChunks w h b n at .answer ≡ Done → subChunks w h b (n - 1) end .answer ≡ Done
+    chunks-rest d = go (subChunk w h kind (part b (at + 6) end) .verdict) refl
+      where
+        go : (v : Verdict) → subChunk w h kind (part b (at + 6) end) .verdict ≡ v → subChunks w h b (n - 1) end .answer ≡ Done
+        go (verdict.Ends k) v = sym (chunks-good k v) ∙ d
+        go (verdict.Fault e) v = let r = chunks-bad e v in let z : _≡_ {A = ℕ} 0 1 = cc in absurd (omega arith)
+
+-- what sub-chunks write
 
 abbrev pub pixelsOn : List ℕ → FrameWalk → List ℕ
 pixelsOn d f = written (f .pixels) d

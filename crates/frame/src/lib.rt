@@ -7,6 +7,8 @@ ghost use lib.Dec.{leb};
 ghost use lib.ListN.{length};
 ghost use Rattle.words.specs.Writes.{written};
 ghost use Rattle.answer.specs.Answer.{maxWidth, maxHeight};
+ghost use Rattle.answer.specs.Walk.{Ended};
+ghost use Rattle.answer.specs.declared.Answer.the-variants.{Done};
 ghost use Rattle.frame.specs.Frame.{subChunk, headerAt, subChunks, frameHeader, frame};
 ghost use Rattle.frame.specs.Reading.{Room, outcome, readFrame};
 
@@ -83,7 +85,7 @@ fn check_chunk(kind: usize, body: &[u8], width: usize, height: usize) -> answer:
     }
 }
 
-// Does a sub-chunk's writes.
+// Does the writes of a sub-chunk that the check accepts.
 fn play_chunk(
     picture: &mut [u8],
     palette: &mut [u8],
@@ -92,7 +94,7 @@ fn play_chunk(
     width: usize,
     height: usize,
 )
-    requires { ⌜ Room width height (now picture) (now palette) ⌝ }
+    requires { ⌜ Room width height (now picture) (now palette) × Ended (subChunk width height kind (now body) .verdict) ⌝ }
     ensures pixels { λ _. ⌜ now (picture .exit) ≡ written (subChunk width height kind (now (body .entry)) .pixels) (now (picture .entry)) ⌝ }
     ensures colours { λ _. ⌜ now (palette .exit) ≡ written (subChunk width height kind (now (body .entry)) .colours) (now (palette .entry)) ⌝ }
 {
@@ -134,7 +136,7 @@ fn check_chunks(b: &[u8], width: usize, height: usize, count: usize) -> answer::
     answer::Answer::Done
 }
 
-// Plays count sub-chunks from offset 16 on.
+// Plays count sub-chunks from offset 16 on, which the check accepts.
 fn play_chunks(
     picture: &mut [u8],
     palette: &mut [u8],
@@ -143,7 +145,8 @@ fn play_chunks(
     height: usize,
     count: usize,
 )
-    requires { ⌜ (16 ≤ length (now b)) × Room width height (now picture) (now palette) ⌝ }
+    requires { ⌜ (16 ≤ length (now b)) × Room width height (now picture) (now palette)
+        × (subChunks width height (now b) count 16 .answer ≡ Done) ⌝ }
     ensures pixels { λ _. ⌜ now (picture .exit) ≡ written (subChunks width height (now (b .entry)) count 16 .pixels) (now (picture .entry)) ⌝ }
     ensures colours { λ _. ⌜ now (palette .exit) ≡ written (subChunks width height (now (b .entry)) count 16 .colours) (now (palette .entry)) ⌝ }
 {
@@ -174,9 +177,9 @@ pub fn check_frame(b: &[u8], width: usize, height: usize) -> answer::Answer
     }
 }
 
-// Does the writes of a frame; of one whose header is at fault, none.
+// Does the writes of a frame that the check accepts.
 pub fn play_frame(picture: &mut [u8], palette: &mut [u8], b: &[u8], width: usize, height: usize)
-    requires { ⌜ Room width height (now picture) (now palette) ⌝ }
+    requires { ⌜ Room width height (now picture) (now palette) × (frame width height (now b) .answer ≡ Done) ⌝ }
     ensures pixels { λ _. ⌜ now (picture .exit) ≡ written (frame width height (now (b .entry)) .pixels) (now (picture .entry)) ⌝ }
     ensures colours { λ _. ⌜ now (palette .exit) ≡ written (frame width height (now (b .entry)) .colours) (now (palette .entry)) ⌝ }
 {

@@ -2,9 +2,11 @@
 // (document 01, "House form of a frame", "Full chunks").
 ghost use mathlib.Core.Path.{_≡_};
 ghost use Prim.Native.Nat.{_+_, _≤_, min};
+ghost use lib.Dec.{ltb};
 ghost use lib.ListN.{length};
 ghost use Rattle.words.specs.Writes.{put};
 ghost use Rattle.answer.specs.Answer.{maxWidth};
+ghost use Rattle.fulls.specs.Edges.{edges, allEdges};
 ghost use Rattle.fulls.specs.Full.{Sized, brunRow, brunBody, allZero, fullChunk, fullKind};
 use answer::FLI_BLACK;
 use answer::FLI_BRUN;
@@ -26,6 +28,40 @@ fn all_zero(picture: &[u8]) -> bool
         i += 1;
     }
     true
+}
+
+// How many pixels of a row differ from the one before. The count is narrow, so that the loop compares many at a time.
+fn row_edges(row: &[u8]) -> u16
+    requires { ⌜ (1 ≤ length (now row)) × (length (now row) ≤ maxWidth) ⌝ }
+    ensures { λ r. ⌜ r ≡ edges (now (row .entry)) ⌝ }
+{
+    let last = row.len() - 1;
+    let mut count: u16 = 0;
+    let mut i = 0;
+    while i < last {
+        if row[i] != row[i + 1] {
+            count += 1;
+        }
+        i += 1;
+    }
+    count
+}
+
+// Whether the rows together have more than n edges. Where they do, every full chunk has a body of more than n bytes.
+pub fn more_edges(picture: &[u8], width: usize, height: usize, n: usize) -> bool
+    requires { ⌜ Sized width height (now picture) ⌝ }
+    ensures { λ r. ⌜ r ≡ ltb n (allEdges width height (now (picture .entry))) ⌝ }
+{
+    let mut count = 0;
+    let mut from = 0;
+    let mut left = height;
+    while left > 0 {
+        let end = from + width;
+        count = count + row_edges(&picture[from..end]) as usize;
+        from = end;
+        left -= 1;
+    }
+    n < count
 }
 
 // The size of the BRUN body.

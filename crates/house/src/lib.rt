@@ -49,7 +49,8 @@ fn measure_colours(previous: &[u8], next: &[u8]) -> Plan
     }
 }
 
-// Plans the picture chunk: the delta if it is strictly shorter than the full chunk.
+// Plans the picture chunk: the delta if it is strictly shorter than the full chunk. A short one mostly has fewer bytes than the
+// picture has edges: then it is, and the least BRUN rows need not be searched for.
 fn measure_picture(previous: &[u8], next: &[u8], width: usize, height: usize) -> Plan
     requires { ⌜ Pictures width height (now previous) (now next) ⌝ }
     ensures { λ r. ⌜ PicturePlan width height (now (previous .entry)) (now (next .entry)) r ⌝ }
@@ -63,20 +64,22 @@ fn measure_picture(previous: &[u8], next: &[u8], width: usize, height: usize) ->
         };
     }
     let delta = deltas::measure_delta(previous, next, width, height);
-    let full = fulls::measure_full(next, width, height);
-    if 6 + delta.size < full.size {
-        return Plan {
-            chunks: 1,
-            kind: FLI_SS2,
-            count: delta.count,
-            size: 6 + delta.size,
-        };
+    if !fulls::more_edges(next, width, height, delta.size) {
+        let full = fulls::measure_full(next, width, height);
+        if full.size <= 6 + delta.size {
+            return Plan {
+                chunks: 1,
+                kind: full.kind,
+                count: 0,
+                size: full.size,
+            };
+        }
     }
     Plan {
         chunks: 1,
-        kind: full.kind,
-        count: 0,
-        size: full.size,
+        kind: FLI_SS2,
+        count: delta.count,
+        size: 6 + delta.size,
     }
 }
 

@@ -1,5 +1,5 @@
 -- Laws of kind 12, LC: what a row's start says, what a row, rows and a body come to.
-use mathlib.Core.Path.{_≡_, ap, ap₂, _∙_, sym, refl}
+use mathlib.Core.Path.{_≡_, ap, ap₂, _∙_, sym, refl, subst}
 use mathlib.Core.List.{List}
 use mathlib.Core.Bool.{Bool, true, false}
 use Prim.Native.Nat.{ℕ, suc, zero, _≤_, _<_, _+_, _-_, _*_}
@@ -15,7 +15,7 @@ use Rattle.answer.specs.declared.Refusal.{Refusal}
 use Rattle.answer.specs.declared.Refusal.the-variants.{BodyEnds, PastHeight}
 use Rattle.answer.specs.declared.Verdict.{Verdict}
 use Rattle.answer.specs.declared.Verdict.the-variants as verdict
-use Rattle.answer.specs.Walk.{Walk, ends, fault, onward}
+use Rattle.answer.specs.Walk.{Walk, Ended, ends, fault, onward}
 use Rattle.answer.proofs.Laws.{after, VerdictIn, onward-in, onward-inside}
 use Rattle.packets.proofs.Laws.{packets-row, packets-in, packets-inside}
 use Rattle.lc.specs.Lc.{startAt, afterStart, rowAt, rows, lc}
@@ -100,6 +100,14 @@ module _ (w : ℕ) (b : List ℕ) where
   rows-as zero row at k v q = absurd (not-suc-le-zero k)
   rows-as (suc n) row at k v q =
       ap₂ (λ (x : Verdict) (m : ℕ). onward (rowAt w b row at .writes) x (λ end. rows w b m (row + 1) end)) q (sym (sub-one (suc n)))
+
+  -- of rows that meet no fault the first meets none
+  pub rows-first : (n row at : ℕ) → 0 < n → Ended (rows w b n row at .verdict) → Ended (rowAt w b row at .verdict)
+  rows-first n row at k e = go (rowAt w b row at .verdict) refl
+    where
+      go : (v : Verdict) → rowAt w b row at .verdict ≡ v → Ended v
+      go (verdict.Ends end) q = tt
+      go (verdict.Fault r) q = subst (λ (i : Walk). Ended (i .verdict)) (rows-as n row at k (verdict.Fault r) q) e
 
   -- what a row that ends writes, and then the rows after it
   pub rows-played : (d : List ℕ) (n row at : ℕ) → 0 < n → (end : ℕ) → rowAt w b row at .verdict ≡ verdict.Ends end

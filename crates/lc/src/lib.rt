@@ -1,10 +1,12 @@
 // Reading kind 12, LC: document 01, "Frames, chunks and rows".
-// A check writes nothing; a play does the writes that come before the first fault.
+// A check writes nothing; a play does the writes of a body that the check accepts.
 ghost use mathlib.Core.Path.{_≡_};
 ghost use Prim.Native.Nat.{_+_, _*_, _≤_};
 ghost use lib.ListN.{length};
 ghost use Rattle.words.specs.Writes.{written};
 ghost use Rattle.answer.specs.Answer.{maxWidth};
+ghost use Rattle.answer.specs.Walk.{Ended};
+ghost use Rattle.answer.specs.declared.Verdict.the-variants.{Ends};
 ghost use Rattle.lc.specs.Lc.{startAt, rowAt, lc};
 
 // A row's start: a fault, or the starting column, the packet count and the offset of the first packet.
@@ -39,14 +41,15 @@ fn check_row(body: &[u8], at: usize, width: usize) -> answer::Verdict
     }
 }
 
-// Plays the row at offset at, on row row of the picture.
-fn play_row(picture: &mut [u8], body: &[u8], at: usize, width: usize, row: usize) -> answer::Verdict
-    requires { ⌜ (at ≤ length (now body)) × (width ≤ maxWidth) × (row * width + width ≤ length (now picture)) ⌝ }
-    ensures verdict { λ r. ⌜ r ≡ rowAt width (now (body .entry)) row at .verdict ⌝ }
+// Plays the row at offset at, on row row of the picture. Returns the offset where its data ends; a row that is played has no fault.
+fn play_row(picture: &mut [u8], body: &[u8], at: usize, width: usize, row: usize) -> usize
+    requires { ⌜ (at ≤ length (now body)) × (width ≤ maxWidth) × (row * width + width ≤ length (now picture))
+        × Ended (rowAt width (now body) row at .verdict) ⌝ }
+    ensures verdict { λ r. ⌜ rowAt width (now (body .entry)) row at .verdict ≡ Ends r ⌝ }
     ensures writes { λ _. ⌜ now (picture .exit) ≡ written (rowAt width (now (body .entry)) row at .writes) (now (picture .entry)) ⌝ }
 {
     match start_at(body, at) {
-        Start::Fault(e) => answer::Verdict::Fault(e),
+        Start::Fault(_) => at,
         Start::Row { x, count, from } => {
             packets::play_packets(picture, body, count, from, x, width, row, 1)
         }
@@ -83,7 +86,7 @@ pub fn check_lc(body: &[u8], width: usize, height: usize) -> answer::Verdict
 
 // Does the writes of a body on a picture of this width and height.
 pub fn play_lc(picture: &mut [u8], body: &[u8], width: usize, height: usize)
-    requires { ⌜ (width ≤ maxWidth) × (width * height ≤ length (now picture)) ⌝ }
+    requires { ⌜ (width ≤ maxWidth) × (width * height ≤ length (now picture)) × Ended (lc width height (now body) .verdict) ⌝ }
     ensures { λ _. ⌜ now (picture .exit) ≡ written (lc width height (now (body .entry)) .writes) (now (picture .entry)) ⌝ }
 {
     if body.len() < 4 {
@@ -96,15 +99,8 @@ pub fn play_lc(picture: &mut [u8], body: &[u8], width: usize, height: usize)
     }
     let mut at = 4;
     while left > 0 {
-        match play_row(picture, body, at, width, row) {
-            answer::Verdict::Fault(_) => {
-                return;
-            }
-            answer::Verdict::Ends(end) => {
-                at = end;
-                row += 1;
-                left -= 1;
-            }
-        }
+        at = play_row(picture, body, at, width, row);
+        row += 1;
+        left -= 1;
     }
 }

@@ -21,13 +21,12 @@ use Rattle.frame.specs.declared.Header.{Header}
 use Rattle.house.proofs.Laws.{fitted-none, fitted-whole}
 use Rattle.house.specs.Writing.{output}
 use Rattle.walk.specs.Head.{headOf}
-use Rattle.walk.specs.Walk.{nextAt}
+use Rattle.walk.specs.Walk.{nextAt, topFrames}
 use Rattle.walk.specs.declared.Head.{Head}
 use Rattle.walk.specs.declared.Head.the-variants as head
 use Rattle.walk.specs.declared.Next.{Next}
 use Rattle.walk.specs.declared.Next.the-variants.{Fault, Frame}
 use Rattle.walk.proofs.Laws.{NextIn, step-in}
-use Rattle.trailer.specs.Trailer.{topFrames}
 use Rattle.text.specs.Text.{refusedLine}
 use Rattle.listing.specs.Listing.{headBytes, countAt, afterChild, childrenBy, inside, containerOf, childrenOf, afterFrame, ringEnd, chunkLines, walkLines, headLines, LIST-INPUT, listing, list}
 

@@ -6,32 +6,26 @@ use mathlib.Core.Bool.{Bool, true, false}
 use Prim.Native.Nat.{ℕ, zero, suc, _+_, _-_, _*_, _≤_, _<_}
 use native.Mathlib.Omega.{arith}
 use borrow.Author.Tests.{ltb-false, leb-true, leb-false}
-use lib.Dec.{leb, ltb, eqb}
-use lib.ListN.{length, getD, take, drop, length-append}
+use lib.Dec.{leb, ltb}
+use lib.ListN.{length, getD, take, length-append}
 use lib.Seq.{length-take-le, getD-take}
 use Rattle.words.specs.Words.{pick, u16At, u32At, Bytes}
 use Rattle.words.proofs.Laws.{bytes-getD, bytes-take}
 use Rattle.answer.specs.Answer.{number}
-use Rattle.answer.specs.Format.{FRAME-TYPE}
 use Rattle.answer.proofs.Laws.{size-in}
 use Rattle.answer.specs.declared.Refusal.{Refusal}
 use Rattle.answer.specs.declared.Refusal.the-variants.{ShortSlice, BadSize, NoRoom, Cut, WrongType, SmallSize, BodyEnds, ZeroCount, PastWidth, PastHeight, BadWord, PastPalette, OverLevel, BadHeader, FewFrames, BadRing, BadTrailer, WrongTime}
 use Rattle.answer.specs.declared.Answer.{Answer}
 use Rattle.answer.specs.declared.Answer.the-variants.{Done, Refused}
-use Rattle.frame.specs.Frame.{headerAt, frameHeader}
+use Rattle.frame.specs.Frame.{headerAt}
 use Rattle.frame.specs.declared.Header.{Header}
 use Rattle.frame.specs.declared.Header.the-variants.{Fault, Chunk}
-use Rattle.frame.specs.declared.FrameHeader.{FrameHeader}
-use Rattle.frame.specs.declared.FrameHeader.the-variants as whole
-use Rattle.frame.proofs.Laws.{HeaderIn, header-in}
+use Rattle.frame.proofs.Laws.{header-in}
 use Rattle.walk.specs.Head.{headOf}
 use Rattle.walk.specs.declared.Head.{Head}
 use Rattle.walk.specs.declared.Head.the-variants as head
-use Rattle.walk.specs.Walk.{framed, packedAt, steppedOver, within, nextAt}
-use Rattle.walk.specs.declared.Next.{Next}
-use Rattle.walk.specs.declared.Next.the-variants as next
-use Rattle.walk.proofs.Laws.{ReelIn, HeadIn, head-in, NextIn, step-in}
-use Rattle.trailer.specs.Trailer.{afterNext, topFrames}
+use Rattle.walk.specs.Walk.{topFrames}
+use Rattle.walk.proofs.Laws.{ReelIn, HeadIn, head-in, AnswerIn, frames-place}
 use Rattle.text.specs.Text.{headLine, chunkLine, okLine, refusedLine}
 use Rattle.text.proofs.Laws.{head-short, chunk-short, refused-short}
 use Rattle.listing.specs.Listing.{headBytes, countAt, opens, afterChild, childrenBy, inside, containerOf, childrenOf, ringEnd, chunkLines, walkLines, headLines, listing}
@@ -145,7 +139,7 @@ pub reel-short : (b : List ℕ) → ((i : ℕ) → getD b i 0 < 256) → (w h fr
 reel-short b bytes w h frames end n l least most =
     omega (arith, l .short, listed-head b w h frames l, children-short b bytes (l .short) 0 (omega arith) 0 end n 128 least most)
 
--- a refused line: its place lies within the reel
+-- a refused line
 
 number-small : (e : Refusal) → number e < 100
 number-small ShortSlice = omega arith
@@ -169,44 +163,6 @@ number-small WrongTime = omega arith
 
 pub refusal-short : (e : Refusal) (place : ℕ) → place ≤ 65536 → length (refusedLine (number e) place) ≤ 17
 refusal-short e place h = refused-short (number e) place (number-small e) (omega arith)
-
-abbrev PlaceIn : List ℕ → Next → Type 0
-PlaceIn b (next.Fault e place) = place ≤ length b
-PlaceIn b (next.Frame from end) = Unit {0}
-
-framed-place : (b : List ℕ) (at : ℕ) (f : FrameHeader) → at ≤ length b → PlaceIn b (framed at f)
-framed-place b at (whole.Fault e) h = h
-framed-place b at (whole.Frame count size) h = tt
-
-within-place : (n : ℕ) (b : List ℕ) (at : ℕ) → at ≤ length b → PlaceIn b (within n b at)
-unfolding within packedAt
-within-place zero b at h = h
-within-place (suc n) b at h =
-    by (leb (at + 6) (length b)) (eqb (u16At b (at + 4)) FRAME-TYPE) (headerAt b at) (header-in b at _ refl) (λ end i. within-place n b end i)
-  where
-    by : (t f : Bool) (x : Header) → HeaderIn b at x → ((end : ℕ) → end ≤ length b → PlaceIn b (within n b end))
-        → PlaceIn b (pick t (pick f (packedAt b at) (steppedOver at x (λ end. within n b end))) (next.Fault FewFrames at))
-    by false f x i rest = h
-    by true true x i rest = framed-place b at (frameHeader (drop at b)) h
-    by true false (Fault e) i rest = h
-    by true false (Chunk kind end) i rest = rest end (i .1)
-
-abbrev AnswerIn : List ℕ → Answer → Type 0
-AnswerIn b Done = Unit {0}
-AnswerIn b (Refused e place) = place ≤ length b
-
-frames-place : (n : ℕ) (b : List ℕ) (at : ℕ) → at ≤ length b → AnswerIn b (topFrames b n at .answer)
-unfolding topFrames nextAt
-frames-place zero b at h = tt
-frames-place (suc n) b at h = by (nextAt b at) (within-place (length b) b at h) (step-in false b at h _ refl) (λ end i. frames-place n b end i)
-  where
-    by : (x : Next) → PlaceIn b x → NextIn b at x → ((end : ℕ) → end ≤ length b → AnswerIn b (topFrames b n end .answer))
-        → AnswerIn b (afterNext x (λ end. topFrames b n end) .answer)
-    by (next.Fault e place) i j rest = i
-    by (next.Frame from end) i j rest = rest end (j .2)
-
-pub frames-refused : (b : List ℕ) (n at : ℕ) → at ≤ length b → (e : Refusal) (place : ℕ) → topFrames b n at .answer ≡ Refused e place → place ≤ length b
-frames-refused b n at h e place p = subst (AnswerIn b) p (frames-place n b at h)
 
 -- the whole listing
 

@@ -15,12 +15,11 @@ use Rattle.frame.specs.declared.Header.{Header}
 use Rattle.frame.specs.declared.Header.the-variants as chunk
 use Rattle.house.specs.Writing.{Output, fitted}
 use Rattle.walk.specs.Head.{headOf}
-use Rattle.walk.specs.Walk.{nextAt}
+use Rattle.walk.specs.Walk.{nextAt, topFrames}
 use Rattle.walk.specs.declared.Head.{Head}
 use Rattle.walk.specs.declared.Head.the-variants as head
 use Rattle.walk.specs.declared.Next.{Next}
 use Rattle.walk.specs.declared.Next.the-variants.{Fault, Frame}
-use Rattle.trailer.specs.Trailer.{topFrames}
 use Rattle.text.specs.Text.{headLine, chunkLine, okLine, refusedLine}
 
 -- "Chunks of kind 61696 and 61946 hold children after 16 bytes, as many as their count; kind 18 holds one after 12"

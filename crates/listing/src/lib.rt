@@ -158,7 +158,7 @@ fn list_text(out: &mut [u8], bytes: &[u8]) -> usize
             height,
             frames,
             size,
-        } => match trailer::walk_frames(&bytes[0..size], frames + 1) {
+        } => match walk::walk_frames(&bytes[0..size], frames + 1) {
             Answer::Refused(e, place) => text::put_refused(out, e, place),
             Answer::Done => list_reel(out, &bytes[0..size], width, height, frames),
         },

@@ -1,13 +1,13 @@
 -- Laws of the packets of a delta row: what each type of packet has, what each packet says, what a row of them comes to.
-use mathlib.Core.Path.{_≡_, ap, _∙_, sym, refl}
+use mathlib.Core.Path.{_≡_, ap, ap₂, _∙_, sym, refl, subst}
 use mathlib.Core.List.{List, [], _∷_, _++_, append-nil, append-assoc}
 use mathlib.Core.Bool.{Bool, true, false}
 use Prim.Native.Nat.{ℕ, suc, zero, _≤_, _<_, _+_, _-_, _*_}
 use native.Mathlib.Nat.{not-suc-le-zero, le-of-suc-le-suc, mul-comm, zero-mul, suc-mul, mul-le-mul}
 use native.Mathlib.Numerals.{add-one, sub-one}
 use native.Mathlib.Omega.{arith}
-use borrow.Author.Tests.{le-leb, lt-leb, lt-ltb, le-ltb, ltb-true, ltb-false, leb-true, leb-false}
-use lib.Dec.{leb, ltb}
+use borrow.Author.Tests.{le-leb, lt-leb, lt-ltb, le-ltb, ltb-true, ltb-false, leb-true, leb-false, eqb-true, eq-eqb, ne-eqb}
+use lib.Dec.{leb, ltb, eqb}
 use lib.ListN.{length, drop, take, set, getD, replicate, length-drop, length-append}
 use lib.Seq.{length-take-le, drop-cons}
 use Rattle.words.specs.Words.{magnitude}
@@ -15,9 +15,10 @@ use Rattle.words.specs.Writes.{put, written}
 use Rattle.words.proofs.Laws.{magnitude-plus, magnitude-minus, Inside, row-in}
 use Rattle.answer.specs.declared.Refusal.{Refusal}
 use Rattle.answer.specs.declared.Refusal.the-variants.{BodyEnds, PastWidth}
-use Rattle.answer.specs.Walk.{ends, fault, andThen}
-use Rattle.answer.proofs.Laws.{after, VerdictIn}
+use Rattle.answer.specs.Walk.{Walk, Ended, ends, fault, andThen}
+use Rattle.answer.proofs.Laws.{after, VerdictIn, both-true}
 use Rattle.packets.specs.Packets.{repeated, dataBytes, pixels, packetOf, packetAt, afterPacket, packets}
+use Rattle.packets.specs.Pair.{onePair, pairAt}
 use Rattle.packets.specs.declared.Packet.{Packet}
 use Rattle.packets.specs.declared.Packet.the-variants.{Fault, Pixels}
 
@@ -37,6 +38,19 @@ pub length-repeated : (n : ℕ) (v : List ℕ) → length (repeated n v) ≡ n *
 unfolding repeated
 length-repeated zero v = sym (zero-mul (length v))
 length-repeated (suc n) v = length-append v (repeated n v) ∙ omega (arith, length-repeated n v, suc-mul n (length v))
+
+-- one pixel, and a pair, as they stand in a slice
+
+pub repeated-pixel : (n : ℕ) (v : List ℕ) → length v ≡ 1 → replicate n (getD v 0 0) ≡ repeated n v
+repeated-pixel n (p ∷ []) e = sym (repeated-one n p)
+repeated-pixel n [] e = absurd (omega arith)
+repeated-pixel n (p ∷ q ∷ v) e = absurd (omega arith)
+
+pub repeated-double : (n : ℕ) (v : List ℕ) → length v ≡ 2 → repeated n (getD v 0 0 ∷ (getD v 1 0 ∷ [])) ≡ repeated n v
+repeated-double n (p ∷ q ∷ []) e = refl
+repeated-double n [] e = absurd (omega arith)
+repeated-double n (p ∷ []) e = absurd (omega arith)
+repeated-double n (p ∷ q ∷ r ∷ v) e = absurd (omega arith)
 
 -- two stores, one after the other
 set-pair : (l : List ℕ) (j p q : ℕ) → suc j < length l → take (suc (suc j)) (set (set l j p) (suc j) q) ≡ take j l ++ (p ∷ (q ∷ []))
@@ -68,6 +82,17 @@ module _ (unit t : ℕ) where
   unfolding dataBytes
   data-repeat h = simp (le-ltb t 128 h)
 
+-- the same, and how many pixels, where the type is known as n
+module _ (unit t n : ℕ) (e : n ≡ t) where
+  pub copied-pixels : t < 128 → unit * magnitude t ≡ unit * n
+  copied-pixels h = ap (λ (k : ℕ). unit * k) (magnitude-plus t h ∙ sym e)
+
+  pub copied-bytes : t < 128 → dataBytes unit t ≡ unit * n
+  copied-bytes h = data-copy unit t h ∙ ap (λ (k : ℕ). unit * k) (sym e)
+
+  pub repeated-pixels : 128 ≤ t → unit * magnitude t ≡ unit * (256 - n)
+  repeated-pixels h = ap (λ (k : ℕ). unit * k) (magnitude-minus t h ∙ ap (λ (k : ℕ). 256 - k) (sym e))
+
 -- the pixels of a packet
 
 module _ (unit : ℕ) (b : List ℕ) (at t : ℕ) where
@@ -93,19 +118,6 @@ module _ (unit : ℕ) (b : List ℕ) (at t : ℕ) where
           ap length (pixels-repeat k) ∙ length-repeated (256 - t) (take unit (drop at b))
           ∙ ap (λ (n : ℕ). (256 - t) * n) (length-take-le unit (drop at b) (simp length-drop (omega (arith, data-repeat unit t k))))
           ∙ mul-comm (256 - t) unit ∙ ap (λ (n : ℕ). unit * n) (sym (magnitude-minus t k))
-
--- a repeat of one pixel, and of a pair
-
-module _ (b : List ℕ) (at t : ℕ) (minus : 128 ≤ t) where
-  pub pixels-one : at < length b → pixels 1 b at t ≡ replicate (256 - t) (getD b at 0)
-  pixels-one h =
-      pixels-repeat 1 b at t minus ∙ ap (λ (l : List ℕ). repeated (256 - t) (take 1 l)) (drop-cons b at 0 h)
-      ∙ repeated-one (256 - t) (getD b at 0)
-
-  pub pixels-pair : at + 1 < length b → pixels 2 b at t ≡ repeated (256 - t) (getD b at 0 ∷ (getD b (at + 1) 0 ∷ []))
-  pixels-pair h =
-      pixels-repeat 2 b at t minus ∙ ap (λ (l : List ℕ). repeated (256 - t) (take 2 l)) (drop-cons b at 0 (omega arith))
-      ∙ ap (λ (l : List ℕ). repeated (256 - t) (getD b at 0 ∷ take 1 l)) (ap (λ (n : ℕ). drop n b) (sym (add-one at)) ∙ drop-cons b (at + 1) 0 h)
 
 -- a packet
 
@@ -138,6 +150,73 @@ module _ (unit w : ℕ) (b : List ℕ) (at x : ℕ) where
   unfolding packetAt packetOf
   packet-whole h k l =
       simp (le-leb (at + 2) (length b) h, le-leb past w k, le-leb (at + 2 + dataBytes unit type) (length b) l)
+
+-- a packet that copies one pair: one of type 1
+
+pub one-pair : (unit t : ℕ) → onePair unit t ≡ true → (unit ≡ 2) × (t ≡ 1)
+unfolding onePair
+one-pair unit t e = let p = both-true (eqb unit 2) (eqb t 1) e in (eqb-true unit 2 (p .0), eqb-true t 1 (p .1))
+
+pub one-pair-not : (unit t : ℕ) → (unit ≡ 2 → ⊥) → onePair unit t ≡ false
+unfolding onePair
+one-pair-not unit t h = simp (ne-eqb unit 2 h)
+
+pub one-pair-is : (unit t : ℕ) → unit ≡ 2 → onePair unit t ≡ eqb t 1
+unfolding onePair
+one-pair-is unit t h = simp (eq-eqb unit 2 h)
+
+-- its two pixels, of two bytes
+
+pub pair-length : (unit t : ℕ) → unit ≡ 2 → t ≡ 1 → unit * magnitude t ≡ 2
+pair-length unit t u e = copied-pixels unit t 1 (sym e) (omega arith) ∙ ap (λ (k : ℕ). k * 1) u
+
+pub pair-bytes : (unit t : ℕ) → unit ≡ 2 → t ≡ 1 → dataBytes unit t ≡ 2
+pair-bytes unit t u e = copied-bytes unit t 1 (sym e) (omega arith) ∙ ap (λ (k : ℕ). k * 1) u
+
+pub pair-pixels : (unit : ℕ) (b : List ℕ) (at t : ℕ) → unit ≡ 2 → t ≡ 1 → at + 2 ≤ length b → pixels unit b at t ≡ getD b at 0 ∷ (getD b (at + 1) 0 ∷ [])
+pair-pixels unit b at t u e h =
+    pixels-copy unit b at t (omega arith)
+    ∙ ap₂ (λ (i j : ℕ). take (i * j) (drop at b)) u e
+    ∙ ap (take 2) (drop-cons b at 0 (omega arith))
+    ∙ ap (λ (l : List ℕ). getD b at 0 ∷ take 1 l) (ap (λ (n : ℕ). drop n b) (sym (add-one at)) ∙ drop-cons b (at + 1) 0 (omega arith))
+
+-- where it lies whole in the body and in the row
+
+module _ (unit w : ℕ) (b : List ℕ) (at x : ℕ) where
+  pub pair-cut : length b < at + 4 → pairAt unit w b at x ≡ false
+  unfolding pairAt
+  pair-cut h = simp (lt-leb (at + 4) (length b) h)
+
+  pub pair-other : at + 4 ≤ length b → onePair unit (getD b (at + 1) 0) ≡ false → pairAt unit w b at x ≡ false
+  unfolding pairAt
+  pair-other h k = simp (le-leb (at + 4) (length b) h, k)
+
+  pub pair-by-width : at + 4 ≤ length b → onePair unit (getD b (at + 1) 0) ≡ true → pairAt unit w b at x ≡ leb (x + getD b at 0 + 2) w
+  unfolding pairAt
+  pair-by-width h k = simp (le-leb (at + 4) (length b) h, k)
+
+  pub record PairIn : Type 0 where
+    pub pairs : unit ≡ 2
+    pub in-body : at + 4 ≤ length b
+    pub one : getD b (at + 1) 0 ≡ 1
+    pub in-row : x + getD b at 0 + 2 ≤ w
+
+  pub pair-in : pairAt unit w b at x ≡ true → PairIn
+  unfolding pairAt
+  pair-in e =
+      let p = both-true (leb (at + 4) (length b)) _ e in
+      let q = both-true (onePair unit (getD b (at + 1) 0)) (leb (x + getD b at 0 + 2) w) (p .1) in
+      let r = one-pair unit (getD b (at + 1) 0) (q .0) in
+      record { pairs = r .0; in-body = leb-true _ _ (p .0); one = r .1; in-row = leb-true _ _ (q .1) }
+
+  pub pair-whole : PairIn → packetAt unit w b at x ≡ Pixels 1 (x + getD b at 0) (x + getD b at 0 + 2) (at + 4)
+  pair-whole p =
+      let t = type unit w b at x in
+      let m = pair-length unit t (p .pairs) (p .one) in
+      let d = pair-bytes unit t (p .pairs) (p .one) in
+      let next : past unit w b at x ≡ x + getD b at 0 + 2 = omega arith in
+      let end : at + 2 + dataBytes unit t ≡ at + 4 = omega arith in
+      cc (packet-whole unit w b at x (omega (arith, p .in-body)) (omega (arith, p .in-row)) (omega (arith, p .in-body)), p .one)
 
 -- a packet that is no fault: its pixels lie in the row, its data in the body
 pub record PacketIn (unit w : ℕ) (b : List ℕ) (at t x next end : ℕ) : Type 0 where
@@ -197,6 +276,30 @@ module _ (unit w : ℕ) (b : List ℕ) where
       → after d (packets unit w b n row at x) ≡ after (put d (row * w + to) (pixels unit b (at + 2) t)) (packets unit w b (n - 1) row end next)
   unfolding written
   packets-played n row at x h t to next end q d = ap (after d) (packets-more n row at x h t to next end q)
+
+  -- of packets that meet no fault the first is whole, and the others meet none
+
+  pub record First (at x : ℕ) : Type 0 where
+    pub whole : packetAt unit w b at x ≡ Pixels (getD b (at + 1) 0) (x + getD b at 0) (x + getD b at 0 + unit * magnitude (getD b (at + 1) 0)) (at + 2 + dataBytes unit (getD b (at + 1) 0))
+    pub in-row : x + getD b at 0 + unit * magnitude (getD b (at + 1) 0) ≤ w
+    pub in-body : at + 2 + dataBytes unit (getD b (at + 1) 0) ≤ length b
+
+  pub packets-first : (n row at x : ℕ) → 0 < n → Ended (packets unit w b n row at x .verdict) → First at x
+  packets-first n row at x h e =
+      go (leb (at + 2) (length b)) (leb (past unit w b at x) w) (leb (at + 2 + dataBytes unit (type unit w b at x)) (length b)) refl refl refl
+    where
+      met : {C : Type 0} {r : Refusal} → packetAt unit w b at x ≡ Fault r → C
+      met q = absurd (subst (λ (k : Walk). Ended (k .verdict)) (packets-stop n row at x h _ q) e)
+
+      go : (p q r : Bool) → leb (at + 2) (length b) ≡ p → leb (past unit w b at x) w ≡ q
+          → leb (at + 2 + dataBytes unit (type unit w b at x)) (length b) ≡ r → First at x
+      go true true true i j k =
+          let m = leb-true _ _ j in
+          let l = leb-true _ _ k in
+          record { whole = packet-whole unit w b at x (leb-true _ _ i) m l; in-row = m; in-body = l }
+      go true true false i j k = met (packet-short unit w b at x (leb-true _ _ i) (leb-true _ _ j) (leb-false _ _ k))
+      go true false r i j k = met (packet-past unit w b at x (leb-true _ _ i) (leb-false _ _ j))
+      go false q r i j k = met (packet-cut unit w b at x (leb-false _ _ i))
 
   -- the row doesn't bear on how packets come out
   pub packets-row : (n row at x : ℕ) → packets unit w b n row at x .verdict ≡ packets unit w b n 0 at x .verdict

@@ -1,13 +1,17 @@
 // The packets of a delta row, as kinds 7 (SS2) and 12 (LC) have them: document 01, "Frames, chunks and rows".
-// unit: how many pixels a packet counts as one, 1 in LC and 2 in SS2. A check writes nothing; a play does the writes before the first fault.
+// unit: how many pixels a packet counts as one, 1 in LC and 2 in SS2. A check writes nothing; a play does the writes of packets that
+// the check accepts.
 ghost use mathlib.Core.Path.{_≡_};
 ghost use mathlib.Core.List.{[], _∷_};
 ghost use Prim.Native.Nat.{_+_, _*_, _≤_};
 ghost use lib.ListN.{length};
 ghost use Rattle.words.specs.Words.{magnitude};
-ghost use Rattle.words.specs.Writes.{written};
+ghost use Rattle.words.specs.Writes.{put, written};
 ghost use Rattle.answer.specs.Answer.{maxWidth};
+ghost use Rattle.answer.specs.Walk.{Ended};
+ghost use Rattle.answer.specs.declared.Verdict.the-variants.{Ends};
 ghost use Rattle.packets.specs.Packets.{repeated, dataBytes, pixels, packetAt, packets};
+ghost use Rattle.packets.specs.Pair.{onePair, pairAt};
 
 // A packet: a fault, or its type, the column where its pixels go, the column after them and the offset after its data.
 pub enum Packet {
@@ -20,15 +24,8 @@ pub enum Packet {
     },
 }
 
-// How many bytes of data follow a type t.
-fn data_len(t: u8, unit: usize) -> usize
-    requires { ⌜ (1 ≤ unit) × (unit ≤ 2) ⌝ }
-    ensures { λ r. ⌜ (r ≡ dataBytes unit t) × (r ≤ 256) ⌝ }
-{
-    if t < 128 { unit * words::wide(t) } else { unit }
-}
-
-// The packet at offset at, the row being at column x.
+// The packet at offset at, the row being at column x. A repeat and a copy have each their own tests: what the processor foresees of
+// the type tells it where a repeat ends.
 fn packet_at(body: &[u8], at: usize, x: usize, width: usize, unit: usize) -> Packet
     requires { ⌜ (at ≤ length (now body)) × (x ≤ maxWidth) × (1 ≤ unit) × (unit ≤ 2) ⌝ }
     ensures { λ r. ⌜ r ≡ packetAt unit width (now (body .entry)) at x ⌝ }
@@ -38,20 +35,59 @@ fn packet_at(body: &[u8], at: usize, x: usize, width: usize, unit: usize) -> Pac
     }
     let start = x + words::wide(body[at]);
     let kind = body[at + 1];
-    let next = start + unit * words::magnitude_of(kind);
-    if width < next {
+    if kind >= 128 {
+        let next = start + unit * (256 - words::wide(kind));
+        if width < next {
+            return Packet::Fault(answer::Refusal::PastWidth);
+        }
+        if body.len() - at - 2 < unit {
+            return Packet::Fault(answer::Refusal::BodyEnds);
+        }
+        return Packet::Pixels {
+            kind,
+            x: start,
+            next,
+            end: at + 2 + unit,
+        };
+    }
+    let len = unit * words::wide(kind);
+    if width < start + len {
         return Packet::Fault(answer::Refusal::PastWidth);
     }
-    let len = data_len(kind, unit);
     if body.len() - at - 2 < len {
         return Packet::Fault(answer::Refusal::BodyEnds);
     }
     Packet::Pixels {
         kind,
         x: start,
-        next,
+        next: start + len,
         end: at + 2 + len,
     }
+}
+
+// Whether a packet of this type copies one pair.
+fn one_pair(kind: u8, unit: usize) -> bool
+    ensures { λ r. ⌜ r ≡ onePair unit kind ⌝ }
+{
+    if unit != 2 {
+        return false;
+    }
+    kind == 1
+}
+
+// Whether the packet at offset at copies one pair, whole and within the row, which is at column x. Most packets of a dense delta do,
+// and where such a packet ends is known before its bytes are there.
+fn pair_at(body: &[u8], at: usize, x: usize, width: usize, unit: usize) -> bool
+    requires { ⌜ (at ≤ length (now body)) × (x ≤ maxWidth) ⌝ }
+    ensures { λ r. ⌜ r ≡ pairAt unit width (now (body .entry)) at x ⌝ }
+{
+    if body.len() - at < 4 {
+        return false;
+    }
+    if !one_pair(body[at + 1], unit) {
+        return false;
+    }
+    x + words::wide(body[at]) + 2 <= width
 }
 
 // Checks count packets from offset from on, the row being at column start.
@@ -70,6 +106,12 @@ pub fn check_packets(
     let mut x = start;
     let mut left = count;
     while left > 0 {
+        if pair_at(body, at, x, width, unit) {
+            x = x + words::wide(body[at]) + 2;
+            at += 4;
+            left -= 1;
+            continue;
+        }
         match packet_at(body, at, x, width, unit) {
             Packet::Fault(e) => {
                 return answer::Verdict::Fault(e);
@@ -102,24 +144,65 @@ fn fill_pairs(part: &mut [u8], n: usize, p: u8, q: u8)
     }
 }
 
-// Writes the pixels of a packet whose data is at offset at, as many as part has.
-fn put_pixels(part: &mut [u8], body: &[u8], at: usize, kind: u8, unit: usize)
-    requires { ⌜ (at + dataBytes unit kind ≤ length (now body)) × (length (now part) ≡ unit * magnitude kind) × (1 ≤ unit) × (unit ≤ 2) ⌝ }
-    ensures { λ _. ⌜ now (part .exit) ≡ pixels unit (now (body .entry)) at kind ⌝ }
+// Fills part with the pixel or pair value.
+fn repeat(part: &mut [u8], value: &[u8], n: usize)
+    requires { ⌜ (1 ≤ length (now value)) × (length (now value) ≤ 2) × (length (now part) ≡ length (now value) * n) ⌝ }
+    ensures { λ _. ⌜ now (part .exit) ≡ repeated n (now (value .entry)) ⌝ }
 {
-    if kind < 128 {
-        let end = at + unit * words::wide(kind);
-        words::copy(part, &body[at..end]);
-        return;
-    }
-    if unit == 1 {
-        words::fill(part, body[at]);
+    if value.len() == 1 {
+        words::fill(part, value[0]);
     } else {
-        fill_pairs(part, 256 - words::wide(kind), body[at], body[at + 1]);
+        fill_pairs(part, n, value[0], value[1]);
     }
 }
 
-// Plays count packets from offset from on, on row row of the picture from column start on.
+// Writes the pixels of a packet of this type, whose data is at offset at, from index to on.
+fn play_packet(
+    picture: &mut [u8],
+    body: &[u8],
+    kind: u8,
+    at: usize,
+    to: usize,
+    unit: usize,
+) -> answer::Played
+    requires { ⌜ (at + dataBytes unit kind ≤ length (now body))
+        × (to + unit * magnitude kind ≤ length (now picture))
+        × (1 ≤ unit) × (unit ≤ 2) ⌝ }
+    ensures lengths { λ r. ⌜ (r .pixels ≡ unit * magnitude kind) × (r .bytes ≡ dataBytes unit kind) ⌝ }
+    ensures writes { λ _. ⌜ now (picture .exit) ≡ put (now (picture .entry)) to (pixels unit (now (body .entry)) at kind) ⌝ }
+{
+    if one_pair(kind, unit) {
+        let first = body[at];
+        let second = body[at + 1];
+        picture[to] = first;
+        picture[to + 1] = second;
+        return answer::Played {
+            pixels: 2,
+            bytes: 2,
+        };
+    }
+    if kind < 128 {
+        let len = unit * words::wide(kind);
+        let stop = to + len;
+        let end = at + len;
+        words::copy(&mut picture[to..stop], &body[at..end]);
+        return answer::Played {
+            pixels: len,
+            bytes: len,
+        };
+    }
+    let n = 256 - words::wide(kind);
+    let stop = to + unit * n;
+    let end = at + unit;
+    repeat(&mut picture[to..stop], &body[at..end], n);
+    answer::Played {
+        pixels: unit * n,
+        bytes: unit,
+    }
+}
+
+// Plays count packets from offset from on, on row row of the picture from column start on. The check has accepted them: nothing is
+// tested again. Returns the offset where their data ends.
 pub fn play_packets(
     picture: &mut [u8],
     body: &[u8],
@@ -129,10 +212,11 @@ pub fn play_packets(
     width: usize,
     row: usize,
     unit: usize,
-) -> answer::Verdict
-    requires { ⌜ (from ≤ length (now body)) × (start ≤ maxWidth) × (width ≤ maxWidth) × (1 ≤ unit) × (unit ≤ 2)
-        × (row * width + width ≤ length (now picture)) ⌝ }
-    ensures verdict { λ r. ⌜ r ≡ packets unit width (now (body .entry)) count row from start .verdict ⌝ }
+) -> usize
+    requires { ⌜ (start ≤ maxWidth) × (width ≤ maxWidth) × (1 ≤ unit) × (unit ≤ 2)
+        × (row * width + width ≤ length (now picture))
+        × Ended (packets unit width (now body) count row from start .verdict) ⌝ }
+    ensures verdict { λ r. ⌜ packets unit width (now (body .entry)) count row from start .verdict ≡ Ends r ⌝ }
     ensures writes { λ _. ⌜ now (picture .exit) ≡ written (packets unit width (now (body .entry)) count row from start .writes) (now (picture .entry)) ⌝ }
 {
     let place = row * width;
@@ -140,24 +224,12 @@ pub fn play_packets(
     let mut x = start;
     let mut left = count;
     while left > 0 {
-        match packet_at(body, at, x, width, unit) {
-            Packet::Fault(e) => {
-                return answer::Verdict::Fault(e);
-            }
-            Packet::Pixels {
-                kind,
-                x: begin,
-                next,
-                end,
-            } => {
-                let to = place + begin;
-                let stop = place + next;
-                put_pixels(&mut picture[to..stop], body, at + 2, kind, unit);
-                x = next;
-                at = end;
-            }
-        }
+        let begin = x + words::wide(body[at]);
+        let data = at + 2;
+        let played = play_packet(picture, body, body[at + 1], data, place + begin, unit);
+        x = begin + played.pixels;
+        at = data + played.bytes;
         left -= 1;
     }
-    answer::Verdict::Ends(at)
+    at
 }

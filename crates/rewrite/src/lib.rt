@@ -3,6 +3,7 @@ ghost use mathlib.Core.Path.{_≡_};
 ghost use Prim.Native.Nat.{_*_, _≤_};
 ghost use lib.ListN.{length};
 ghost use Rattle.answer.specs.Answer.{maxWidth, maxHeight, state};
+ghost use Rattle.answer.specs.declared.Answer.the-variants.{Done};
 ghost use Rattle.frame.specs.Frame.{frame};
 ghost use Rattle.frame.specs.Reading.{played};
 ghost use Rattle.house.specs.House.{houseFrame};
@@ -26,7 +27,8 @@ fn rewrite_accepted(
 ) -> Written
     requires { ⌜ (1 ≤ width) × (width ≤ maxWidth) × (1 ≤ height) × (height ≤ maxHeight)
         × (length (now «work_picture») ≡ width * height) × (length (now «work_palette») ≡ 768)
-        × (length (now «previous_picture») ≡ width * height) × (length (now «previous_palette») ≡ 768) ⌝ }
+        × (length (now «previous_picture») ≡ width * height) × (length (now «previous_palette») ≡ 768)
+        × (frame width height (now bytes) .answer ≡ Done) ⌝ }
     ensures picture { λ _. ⌜ now («work_picture» .exit)
         ≡ played (frame width height (now (bytes .entry))) (state (now («previous_picture» .entry)) (now («previous_palette» .entry))) .picture ⌝ }
     ensures palette { λ _. ⌜ now («work_palette» .exit)

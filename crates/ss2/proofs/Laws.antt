@@ -16,7 +16,7 @@ use Rattle.answer.specs.declared.Refusal.{Refusal}
 use Rattle.answer.specs.declared.Refusal.the-variants.{BodyEnds, PastHeight}
 use Rattle.answer.specs.declared.Verdict.{Verdict}
 use Rattle.answer.specs.declared.Verdict.the-variants as verdict
-use Rattle.answer.specs.Walk.{Walk, ends, fault, onward}
+use Rattle.answer.specs.Walk.{Walk, Ended, ends, fault, onward}
 use Rattle.answer.proofs.Laws.{after, VerdictIn, onward-in, onward-inside}
 use Rattle.packets.specs.Packets.{packets}
 use Rattle.packets.proofs.Laws.{packets-row, packets-in, packets-inside}
@@ -136,11 +136,15 @@ module _ (w : ℕ) (b : List ℕ) (row : ℕ) where
   line-played (Set v) count from d k i =
       ap (λ (x : List ℕ). after x (packets 2 w b count row from 0)) (sym (put-one d (row * w + (w - 1)) v (omega arith)))
 
+  -- it comes out as its packets do
+  pub line-packets : (last : LastPixel) (count from : ℕ) → lineWalk w b row last count from .verdict ≡ packets 2 w b count row from 0 .verdict
+  unfolding lineWalk
+  line-packets Kept count from = refl
+  line-packets (Set v) count from = refl
+
   -- neither the row nor the last pixel bears on how it comes out
   pub line-verdict : (last : LastPixel) (count from : ℕ) → lineWalk w b row last count from .verdict ≡ packets 2 w b count 0 from 0 .verdict
-  unfolding lineWalk
-  line-verdict Kept count from = packets-row 2 w b count row from 0
-  line-verdict (Set v) count from = packets-row 2 w b count row from 0
+  line-verdict last count from = line-packets last count from ∙ packets-row 2 w b count row from 0
 
   -- its data ends within the body
   pub line-ends : (last : LastPixel) (count from : ℕ) → from ≤ length b → VerdictIn b (lineWalk w b row last count from .verdict)
@@ -202,6 +206,14 @@ module _ (w h : ℕ) (b : List ℕ) where
           let r : h - row ≡ suc (h - (row + 1)) = omega arith in
           lines-as n row at some (Row last count from) q
           ∙ ap₂ (λ (x : Verdict) (y : ℕ). onward (lineWalk w b row last count from .writes) x (λ end. lines w h b y 0 (n - 1) (row + 1) end)) e r
+
+      -- of lines that meet no fault the first meets none
+      pub lines-first : Ended (linesFrom w h b n row at .verdict) → Ended (lineWalk w b row last count from .verdict)
+      lines-first e = go (lineWalk w b row last count from .verdict) refl
+        where
+          go : (v : Verdict) → lineWalk w b row last count from .verdict ≡ v → Ended v
+          go (verdict.Ends end) i = tt
+          go (verdict.Fault r) i = subst (λ (k : Walk). Ended (k .verdict)) (lines-row (verdict.Fault r) i) e
 
       -- what a line that ends writes, and then the lines after it
       pub lines-played : (d : List ℕ) (end : ℕ) → lineWalk w b row last count from .verdict ≡ verdict.Ends end

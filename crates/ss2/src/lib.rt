@@ -1,11 +1,13 @@
 // Reading kind 7, SS2: document 01, "Frames, chunks and rows".
-// A check writes nothing; a play does the writes that come before the first fault.
+// A check writes nothing; a play does the writes of a body that the check accepts.
 ghost use mathlib.Core.Path.{_≡_};
 ghost use Prim.Native.Nat.{_+_, _*_, _≤_};
 ghost use lib.ListN.{length};
 ghost use Rattle.words.specs.Words.{u16At};
 ghost use Rattle.words.specs.Writes.{written};
 ghost use Rattle.answer.specs.Answer.{maxWidth, maxHeight};
+ghost use Rattle.answer.specs.Walk.{Ended};
+ghost use Rattle.answer.specs.declared.Verdict.the-variants.{Ends};
 ghost use Rattle.ss2.specs.Ss2.{wordOf, lastAt, lineAt, lineWalk, ss2};
 
 // What a word is, by its two high bits.
@@ -109,7 +111,7 @@ fn line_at(body: &[u8], at: usize, row: usize, height: usize) -> Line
     Line::Fault(answer::Refusal::PastHeight)
 }
 
-// Plays a line on row row: its last pixel, then its packets.
+// Plays a line on row row: its last pixel, then its packets. Returns the offset where its data ends.
 fn play_line(
     picture: &mut [u8],
     body: &[u8],
@@ -118,9 +120,10 @@ fn play_line(
     from: usize,
     width: usize,
     row: usize,
-) -> answer::Verdict
-    requires { ⌜ (from ≤ length (now body)) × (1 ≤ width) × (width ≤ maxWidth) × (row * width + width ≤ length (now picture)) ⌝ }
-    ensures verdict { λ r. ⌜ r ≡ lineWalk width (now (body .entry)) row last count from .verdict ⌝ }
+) -> usize
+    requires { ⌜ (1 ≤ width) × (width ≤ maxWidth) × (row * width + width ≤ length (now picture))
+        × Ended (lineWalk width (now body) row last count from .verdict) ⌝ }
+    ensures verdict { λ r. ⌜ lineWalk width (now (body .entry)) row last count from .verdict ≡ Ends r ⌝ }
     ensures writes { λ _. ⌜ now (picture .exit) ≡ written (lineWalk width (now (body .entry)) row last count from .writes) (now (picture .entry)) ⌝ }
 {
     match last {
@@ -174,7 +177,8 @@ pub fn check_ss2(body: &[u8], width: usize, height: usize) -> answer::Verdict
 
 // Does the writes of a body on a picture of this width and height.
 pub fn play_ss2(picture: &mut [u8], body: &[u8], width: usize, height: usize)
-    requires { ⌜ (1 ≤ width) × (width ≤ maxWidth) × (height ≤ maxHeight) × (width * height ≤ length (now picture)) ⌝ }
+    requires { ⌜ (1 ≤ width) × (width ≤ maxWidth) × (height ≤ maxHeight) × (width * height ≤ length (now picture))
+        × Ended (ss2 width height (now body) .verdict) ⌝ }
     ensures { λ _. ⌜ now (picture .exit) ≡ written (ss2 width height (now (body .entry)) .writes) (now (picture .entry)) ⌝ }
 {
     if body.len() < 2 {
@@ -193,16 +197,9 @@ pub fn play_ss2(picture: &mut [u8], body: &[u8], width: usize, height: usize)
                 at += 2;
             }
             Line::Row { last, count, from } => {
-                match play_line(picture, body, last, count, from, width, row) {
-                    answer::Verdict::Fault(_) => {
-                        return;
-                    }
-                    answer::Verdict::Ends(end) => {
-                        at = end;
-                        row += 1;
-                        left -= 1;
-                    }
-                }
+                at = play_line(picture, body, last, count, from, width, row);
+                row += 1;
+                left -= 1;
             }
         }
     }

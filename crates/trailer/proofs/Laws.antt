@@ -1,17 +1,16 @@
--- Laws of the walk over frame chunks, of the index and the trailer, and of checking and writing them, by the order of their checks.
+-- Laws of the index and the trailer, and of checking and writing them, by the order of their checks.
 use mathlib.Core.Path.{_≡_, refl, sym, ap, ap₂, _∙_}
 use mathlib.Core.List.{List, [], _∷_, _++_, append-nil}
-use mathlib.Core.Bool.{Bool, true, false}
+use mathlib.Core.Bool.{Bool}
 use Prim.Native.Nat.{ℕ, zero, suc, _+_, _-_, _*_, _≤_, _<_}
 use native.Mathlib.Nat.{not-suc-le-zero, zero-add}
-use native.Mathlib.Numerals.{sub-one}
 use native.Mathlib.Omega.{arith}
 use borrow.Author.Tests.{eq-eqb, ne-eqb, le-leb, lt-leb}
 use lib.ListN.{length, take, drop, getD, replicate, length-append, length-drop, length-replicate, drop-of-length-le}
 use lib.Seq.{length-take-le, take-all, take-at, drop-drop}
 use Rattle.words.specs.Words.{pick, part, le16, le32, same}
 use Rattle.words.specs.Writes.{put}
-use Rattle.words.proofs.Laws.{put-front, length-put, span-length, span-back, put-nil, put-append, put-then, same-eq}
+use Rattle.words.proofs.Laws.{put-front, length-put, span-length, span-back, put-nil, put-append, put-then}
 use Rattle.answer.specs.Answer.{told, done, maxFrames}
 use Rattle.answer.specs.declared.Refusal.{Refusal}
 use Rattle.answer.specs.declared.Refusal.the-variants.{NoRoom, BadTrailer}
@@ -20,64 +19,11 @@ use Rattle.answer.specs.declared.Answer.the-variants.{Done, Refused}
 use Rattle.answer.specs.declared.Written.the-variants as written
 use Rattle.house.specs.Writing.{output}
 use Rattle.walk.specs.Head.{headOf}
-use Rattle.walk.specs.Walk.{nextAt}
+use Rattle.walk.specs.Walk.{Found, topFrames}
 use Rattle.walk.specs.declared.Head.{Head}
 use Rattle.walk.specs.declared.Head.the-variants as head
-use Rattle.walk.specs.declared.Next.{Next}
-use Rattle.walk.specs.declared.Next.the-variants.{Fault, Frame}
-use Rattle.walk.proofs.Laws.{NextIn, step-in, head-in}
-use Rattle.trailer.specs.Trailer.{Found, found, afterNext, topFrames, index, trailerOf, judged, walked, checkedAfter, checkTrailer, storedIf, writtenAfter, writeTrailer, Walked, padded}
-
--- the walk over frame chunks
-
-module _ (b : List ℕ) (count at : ℕ) where
-  pub found-none : count ≤ 0 → topFrames b count at ≡ found [] Done
-  unfolding topFrames
-  found-none i = go count i
-    where
-      go : (n : ℕ) → n ≤ 0 → topFrames b n at ≡ found [] Done
-      go zero i = refl
-      go (suc n) i = absurd (not-suc-le-zero i)
-
-  module _ (some : 0 < count) where
-    found-step : (x : Next) → nextAt b at ≡ x → topFrames b count at ≡ afterNext x (λ end. topFrames b (count - 1) end)
-    unfolding topFrames
-    found-step x q = go count some ∙ ap (λ (y : Next). afterNext y (λ end. topFrames b (count - 1) end)) q
-      where
-        go : (n : ℕ) → 0 < n → topFrames b n at ≡ afterNext (nextAt b at) (λ end. topFrames b (n - 1) end)
-        go zero i = absurd (not-suc-le-zero i)
-        go (suc n) i = ap (λ (k : ℕ). afterNext (nextAt b at) (λ end. topFrames b k end)) (sym (sub-one (suc n)))
-
-    pub found-fault : (e : Refusal) (place : ℕ) → nextAt b at ≡ Fault e place → topFrames b count at ≡ found [] (Refused e place)
-    found-fault e place q = found-step (Fault e place) q
-
-    pub found-more : (from end : ℕ) → nextAt b at ≡ Frame from end
-        → topFrames b count at ≡ found (from ∷ topFrames b (count - 1) end .offsets) (topFrames b (count - 1) end .answer)
-    found-more from end q = found-step (Frame from end) q
-
--- where all were met, there are as many offsets as frames asked for
-pub found-many : (b : List ℕ) (count at : ℕ) → topFrames b count at .answer ≡ Done → length (topFrames b count at .offsets) ≡ count
-unfolding topFrames
-found-many b zero at q = refl
-found-many b (suc count) at q = go (nextAt b at) q (λ end r. found-many b count end r)
-  where
-    go : (x : Next) → afterNext x (λ end. topFrames b count end) .answer ≡ Done
-        → ((end : ℕ) → topFrames b count end .answer ≡ Done → length (topFrames b count end .offsets) ≡ count)
-        → length (afterNext x (λ end. topFrames b count end) .offsets) ≡ suc count
-    go (Fault e place) q rest = let z : _≡_ {A = ℕ} 0 1 = cc in absurd (omega arith)
-    go (Frame from end) q rest = ap suc (rest end q)
-
--- each offset lies within b
-pub found-in : (b : List ℕ) (count at i : ℕ) → at ≤ length b → getD (topFrames b count at .offsets) i 0 ≤ length b
-unfolding topFrames
-found-in b zero at i h = omega arith
-found-in b (suc count) at i h = go (nextAt b at) i (step-in false b at h _ refl) (λ end j k. found-in b count end j k)
-  where
-    go : (x : Next) (i : ℕ) → NextIn b at x → ((end j : ℕ) → end ≤ length b → getD (topFrames b count end .offsets) j 0 ≤ length b)
-        → getD (afterNext x (λ end. topFrames b count end) .offsets) i 0 ≤ length b
-    go (Fault e place) i n rest = omega arith
-    go (Frame from end) zero n rest = omega (arith, n .1, n .2)
-    go (Frame from end) (suc i) n rest = rest end i (n .2)
+use Rattle.walk.proofs.Laws.{head-in, found-many}
+use Rattle.trailer.specs.Trailer.{index, trailerOf, judged, walked, checkedAfter, checkTrailer, storedIf, writtenAfter, writeTrailer, Walked, padded}
 
 -- the index
 
@@ -197,15 +143,6 @@ module _ (os : List ℕ) (count : ℕ) (d x₁ x₂ x₃ x₄ : List ℕ) where
       let tail = (distance ++ entries) ++ le16 1 [] in
       let r = put-then d first fourth (index os) tail 0 at li (omega arith) p₁ (r₄ ∙ ap (λ (k : ℕ). put first k tail) (sym (zero-add at))) in
       r ∙ ap₂ (λ (x t : List ℕ). put x 0 t) e (trailer-counted os count many) ∙ padded-stored (trailerOf os)
-
--- lists of other lengths are not the same
-
-pub same-other : (a b : List ℕ) → (length a ≡ length b → ⊥) → same a b ≡ false
-same-other a b h = go (same a b) refl
-  where
-    go : (t : Bool) → same a b ≡ t → t ≡ false
-    go true e = absurd (h (ap length (same-eq a b e)))
-    go false e = refl
 
 -- what a reel's header leads to; n and m: the length of the range up to size, and the number of frames with the ring, as the code has them
 

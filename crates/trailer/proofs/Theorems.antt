@@ -27,13 +27,14 @@ use Rattle.answer.specs.declared.Written.the-variants as written
 use Rattle.frame.specs.Reading.{enough}
 use Rattle.house.specs.Writing.{Output, output}
 use Rattle.walk.specs.Head.{headOf}
+use Rattle.walk.specs.Walk.{Found, topFrames}
 use Rattle.walk.specs.declared.Head.{Head}
 use Rattle.walk.specs.declared.Head.the-variants.{Fault, Reel}
-use Rattle.walk.proofs.Laws.{head-in}
+use Rattle.walk.proofs.Laws.{head-in, found-many, found-in}
 use Rattle.reel.specs.Play.{playAll}
 use Rattle.reel.specs.Check.{checked, checkedBy, afterHead, checkReel}
-use Rattle.trailer.specs.Trailer.{Found, topFrames, index, trailerOf, walked, checkTrailer, writeTrailer}
-use Rattle.trailer.proofs.Laws.{found-many, found-in, index-entry, trailer-length, checked-compared, wrote-fault, wrote-refused, wrote-short, wrote-done}
+use Rattle.trailer.specs.Trailer.{index, trailerOf, walked, checkTrailer, writeTrailer}
+use Rattle.trailer.proofs.Laws.{index-entry, trailer-length, checked-compared, wrote-fault, wrote-refused, wrote-short, wrote-done}
 use Rattle.trailer.proofs.Front.{head-word, head-front}
 
 -- what writing leaves

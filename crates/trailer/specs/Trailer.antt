@@ -1,5 +1,5 @@
 -- "After the size may stand an index .. then at the very end a trailer" (document 01, "Reels and the trailer").
-use Prim.Native.Nat.{ℕ, zero, suc, _+_, _*_, _-_, _≤_}
+use Prim.Native.Nat.{ℕ, suc, _+_, _*_, _-_, _≤_}
 use mathlib.Core.Path.{_≡_}
 use mathlib.Core.List.{List, [], _∷_, _++_}
 use lib.Dec.{leb, eqb}
@@ -13,29 +13,9 @@ use Rattle.answer.specs.declared.Answer.the-variants.{Done, Refused}
 use Rattle.answer.specs.declared.Written.the-variants as written
 use Rattle.house.specs.Writing.{Output, output}
 use Rattle.walk.specs.Head.{headOf}
-use Rattle.walk.specs.Walk.{nextAt}
+use Rattle.walk.specs.Walk.{Found, topFrames}
 use Rattle.walk.specs.declared.Head.{Head}
 use Rattle.walk.specs.declared.Head.the-variants as head
-use Rattle.walk.specs.declared.Next.{Next}
-use Rattle.walk.specs.declared.Next.the-variants.{Fault, Frame}
-
--- the frame chunks of a reel: the offsets of those met before the first fault, and how the walk is answered
-pub record Found : Type 0 where
-  pub offsets : List ℕ
-  pub answer : Answer
-
-abbrev pub found : List ℕ → Answer → Found
-found os a = record { offsets = os; answer = a }
-
-abbrev pub afterNext : Next → (ℕ → Found) → Found
-afterNext (Fault e place) rest = found [] (Refused e place)
-afterNext (Frame from end) rest = found (from ∷ rest end .offsets) (rest end .answer)
-
--- count frame chunks of b from offset at on; "no sub-chunk is opened"
-unfoldable pub topFrames : List ℕ → ℕ → ℕ → Found
-unfolding nextAt
-topFrames b zero at = found [] Done
-topFrames b (suc count) at = afterNext (nextAt b at) (λ end. topFrames b count end)
 
 -- "an index: 4 bytes for each frame's offset, ring included"
 unfoldable pub index : List ℕ → List ℕ

@@ -7,7 +7,8 @@ ghost use Rattle.words.specs.Words.{same};
 ghost use Rattle.words.specs.Writes.{put};
 ghost use Rattle.answer.specs.Answer.{told};
 ghost use Rattle.house.specs.Writing.{output};
-ghost use Rattle.trailer.specs.Trailer.{topFrames, index, trailerOf, Walked, padded, checkTrailer, writeTrailer};
+ghost use Rattle.walk.specs.Walk.{topFrames};
+ghost use Rattle.trailer.specs.Trailer.{index, trailerOf, Walked, padded, checkTrailer, writeTrailer};
 use answer::Answer;
 use answer::Refusal;
 use answer::Written;
@@ -16,27 +17,6 @@ use walk::Next;
 
 // The most bytes of an index and its trailer: 4 for each of 4,000 frames and the ring, and 8.
 const MOST: usize = 16012;
-
-// Walks over the chunks of b up to the last of count frames; no frame is opened.
-pub fn walk_frames(b: &[u8], count: usize) -> Answer
-    requires { ⌜ 128 ≤ length (now b) ⌝ }
-    ensures { λ r. ⌜ r ≡ topFrames (now (b .entry)) count 128 .answer ⌝ }
-{
-    let mut at = 128;
-    let mut left = count;
-    while left > 0 {
-        match walk::next_at(b, at) {
-            Next::Fault(e, place) => {
-                return Answer::Refused(e, place);
-            }
-            Next::Frame { from: _, end } => {
-                at = end;
-            }
-        }
-        left = left - 1;
-    }
-    Answer::Done
-}
 
 // Stores the offset of each of count frames of b.
 fn put_index(out: &mut [u8], b: &[u8], count: usize)
@@ -106,7 +86,7 @@ pub fn check_trailer(bytes: &[u8]) -> Answer
             height: _,
             frames,
             size,
-        } => match walk_frames(&bytes[0..size], frames + 1) {
+        } => match walk::walk_frames(&bytes[0..size], frames + 1) {
             Answer::Refused(e, place) => Answer::Refused(e, place),
             Answer::Done => {
                 if bytes.len() == size {
@@ -132,7 +112,7 @@ pub fn write_trailer(bytes: &mut [u8]) -> Written
             height: _,
             frames,
             size,
-        } => match walk_frames(&bytes[0..size], frames + 1) {
+        } => match walk::walk_frames(&bytes[0..size], frames + 1) {
             Answer::Refused(e, place) => Written::Refused(e, place),
             Answer::Done => {
                 let n = 4 * (frames + 1) + 8;

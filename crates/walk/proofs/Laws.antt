@@ -1,18 +1,23 @@
--- Laws of the file header and of the step from one frame to the next.
+-- Laws of the file header, of the step from one frame to the next, and of the walk over frame chunks.
 use mathlib.Core.Path.{_≡_, refl, sym, ap, ap₂, _∙_, subst}
-use mathlib.Core.List.{List}
+use mathlib.Core.List.{List, [], _∷_}
 use mathlib.Core.Bool.{Bool, true, false, _&&_}
 use Prim.Native.Nat.{ℕ, zero, suc, _+_, _-_, _≤_, _<_}
+use native.Mathlib.Nat.{not-suc-le-zero}
+use native.Mathlib.Numerals.{sub-one}
 use native.Mathlib.Omega.{arith}
 use borrow.Author.Tests.{le-leb, lt-leb, eq-eqb, ne-eqb, leb-true}
-use lib.ListN.{length, take, drop, length-drop}
+use lib.ListN.{length, take, drop, getD, length-drop}
 use lib.Seq.{take-all}
 use lib.Dec.{leb, eqb}
 use Rattle.words.specs.Words.{pick, u16At, u32At}
 use Rattle.words.proofs.There.{drop-word}
 use Rattle.answer.specs.Answer.{sizeOk, maxFrames}
 use Rattle.answer.specs.Format.{FLC-MAGIC, FRAME-TYPE}
+use Rattle.answer.specs.declared.Refusal.{Refusal}
 use Rattle.answer.specs.declared.Refusal.the-variants.{Cut, WrongType, SmallSize, BadSize, BadHeader, FewFrames}
+use Rattle.answer.specs.declared.Answer.{Answer}
+use Rattle.answer.specs.declared.Answer.the-variants.{Done, Refused}
 use Rattle.answer.proofs.Laws.{both-true}
 use Rattle.frame.specs.Frame.{headerAt, frameHeader}
 use Rattle.frame.specs.declared.FrameHeader.{FrameHeader}
@@ -21,7 +26,7 @@ use Rattle.frame.specs.declared.Header.{Header}
 use Rattle.frame.specs.declared.Header.the-variants as chunk
 use Rattle.frame.proofs.Laws.{HeaderIn, header-in, FrameIn, frame-in}
 use Rattle.walk.specs.Head.{formOk, headOf}
-use Rattle.walk.specs.Walk.{framed, packedAt, steppedOver, within, nextAt, stepAt}
+use Rattle.walk.specs.Walk.{framed, packedAt, steppedOver, within, nextAt, stepAt, found, afterNext, topFrames}
 use Rattle.walk.specs.declared.Head.{Head}
 use Rattle.walk.specs.declared.Head.the-variants as head
 use Rattle.walk.specs.declared.Next.{Next}
@@ -218,3 +223,94 @@ step-there true b at count size h e = header-there b at count size e
 step-there false b at count size h e =
     let i = frame-in (drop at b) _ e in
     next-frame b at (omega (arith, i .0, i .1, length-drop at b)) (sym (drop-word b at 4) ∙ i .2) ∙ header-there b at count size e
+
+-- the walk over frame chunks
+
+module _ (b : List ℕ) (count at : ℕ) where
+  pub found-none : count ≤ 0 → topFrames b count at ≡ found [] Done
+  unfolding topFrames
+  found-none i = go count i
+    where
+      go : (n : ℕ) → n ≤ 0 → topFrames b n at ≡ found [] Done
+      go zero i = refl
+      go (suc n) i = absurd (not-suc-le-zero i)
+
+  module _ (some : 0 < count) where
+    found-step : (x : Next) → nextAt b at ≡ x → topFrames b count at ≡ afterNext x (λ end. topFrames b (count - 1) end)
+    unfolding topFrames
+    found-step x q = go count some ∙ ap (λ (y : Next). afterNext y (λ end. topFrames b (count - 1) end)) q
+      where
+        go : (n : ℕ) → 0 < n → topFrames b n at ≡ afterNext (nextAt b at) (λ end. topFrames b (n - 1) end)
+        go zero i = absurd (not-suc-le-zero i)
+        go (suc n) i = ap (λ (k : ℕ). afterNext (nextAt b at) (λ end. topFrames b k end)) (sym (sub-one (suc n)))
+
+    pub found-fault : (e : Refusal) (place : ℕ) → nextAt b at ≡ Fault e place → topFrames b count at ≡ found [] (Refused e place)
+    found-fault e place q = found-step (Fault e place) q
+
+    pub found-more : (from end : ℕ) → nextAt b at ≡ Frame from end
+        → topFrames b count at ≡ found (from ∷ topFrames b (count - 1) end .offsets) (topFrames b (count - 1) end .answer)
+    found-more from end q = found-step (Frame from end) q
+
+-- where all were met, there are as many offsets as frames asked for
+pub found-many : (b : List ℕ) (count at : ℕ) → topFrames b count at .answer ≡ Done → length (topFrames b count at .offsets) ≡ count
+unfolding topFrames
+found-many b zero at q = refl
+found-many b (suc count) at q = go (nextAt b at) q (λ end r. found-many b count end r)
+  where
+    go : (x : Next) → afterNext x (λ end. topFrames b count end) .answer ≡ Done
+        → ((end : ℕ) → topFrames b count end .answer ≡ Done → length (topFrames b count end .offsets) ≡ count)
+        → length (afterNext x (λ end. topFrames b count end) .offsets) ≡ suc count
+    go (Fault e place) q rest = let z : _≡_ {A = ℕ} 0 1 = cc in absurd (omega arith)
+    go (Frame from end) q rest = ap suc (rest end q)
+
+-- each offset lies within b
+pub found-in : (b : List ℕ) (count at i : ℕ) → at ≤ length b → getD (topFrames b count at .offsets) i 0 ≤ length b
+unfolding topFrames
+found-in b zero at i h = omega arith
+found-in b (suc count) at i h = go (nextAt b at) i (step-in false b at h _ refl) (λ end j k. found-in b count end j k)
+  where
+    go : (x : Next) (i : ℕ) → NextIn b at x → ((end j : ℕ) → end ≤ length b → getD (topFrames b count end .offsets) j 0 ≤ length b)
+        → getD (afterNext x (λ end. topFrames b count end) .offsets) i 0 ≤ length b
+    go (Fault e place) i n rest = omega arith
+    go (Frame from end) zero n rest = omega (arith, n .1, n .2)
+    go (Frame from end) (suc i) n rest = rest end i (n .2)
+
+-- where a refusal of the walk lies: within b
+
+abbrev PlaceIn : List ℕ → Next → Type 0
+PlaceIn b (Fault e place) = place ≤ length b
+PlaceIn b (Frame from end) = Unit {0}
+
+framed-place : (b : List ℕ) (at : ℕ) (f : FrameHeader) → at ≤ length b → PlaceIn b (framed at f)
+framed-place b at (whole.Fault e) h = h
+framed-place b at (whole.Frame count size) h = tt
+
+within-place : (n : ℕ) (b : List ℕ) (at : ℕ) → at ≤ length b → PlaceIn b (within n b at)
+unfolding within packedAt
+within-place zero b at h = h
+within-place (suc n) b at h =
+    by (leb (at + 6) (length b)) (eqb (u16At b (at + 4)) FRAME-TYPE) (headerAt b at) (header-in b at _ refl) (λ end i. within-place n b end i)
+  where
+    by : (t f : Bool) (x : Header) → HeaderIn b at x → ((end : ℕ) → end ≤ length b → PlaceIn b (within n b end))
+        → PlaceIn b (pick t (pick f (packedAt b at) (steppedOver at x (λ end. within n b end))) (Fault FewFrames at))
+    by false f x i rest = h
+    by true true x i rest = framed-place b at (frameHeader (drop at b)) h
+    by true false (chunk.Fault e) i rest = h
+    by true false (chunk.Chunk kind end) i rest = rest end (i .1)
+
+abbrev pub AnswerIn : List ℕ → Answer → Type 0
+AnswerIn b Done = Unit {0}
+AnswerIn b (Refused e place) = place ≤ length b
+
+pub frames-place : (n : ℕ) (b : List ℕ) (at : ℕ) → at ≤ length b → AnswerIn b (topFrames b n at .answer)
+unfolding topFrames nextAt
+frames-place zero b at h = tt
+frames-place (suc n) b at h = by (nextAt b at) (within-place (length b) b at h) (step-in false b at h _ refl) (λ end i. frames-place n b end i)
+  where
+    by : (x : Next) → PlaceIn b x → NextIn b at x → ((end : ℕ) → end ≤ length b → AnswerIn b (topFrames b n end .answer))
+        → AnswerIn b (afterNext x (λ end. topFrames b n end) .answer)
+    by (Fault e place) i j rest = i
+    by (Frame from end) i j rest = rest end (j .2)
+
+pub frames-refused : (b : List ℕ) (n at : ℕ) → at ≤ length b → (e : Refusal) (place : ℕ) → topFrames b n at .answer ≡ Refused e place → place ≤ length b
+frames-refused b n at h e place p = subst (AnswerIn b) p (frames-place n b at h)

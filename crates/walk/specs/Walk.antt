@@ -1,12 +1,14 @@
--- From one frame chunk to the next. b: the reel up to its size, or up to the record's end in a reel being closed.
+-- From one frame chunk to the next, and so over the frame chunks of a reel. b: the reel up to its size, or up to the record's end in a reel being closed.
 use Prim.Native.Nat.{ℕ, zero, suc, _+_}
-use mathlib.Core.List.{List}
+use mathlib.Core.List.{List, [], _∷_}
 use mathlib.Core.Bool.{Bool, true, false}
 use lib.ListN.{length, drop}
 use lib.Dec.{leb, eqb}
 use Rattle.words.specs.Words.{pick, u16At}
 use Rattle.answer.specs.Format.{FRAME-TYPE}
 use Rattle.answer.specs.declared.Refusal.the-variants.{FewFrames}
+use Rattle.answer.specs.declared.Answer.{Answer}
+use Rattle.answer.specs.declared.Answer.the-variants.{Done, Refused}
 use Rattle.frame.specs.Frame.{headerAt, frameHeader}
 use Rattle.frame.specs.declared.FrameHeader.{FrameHeader}
 use Rattle.frame.specs.declared.FrameHeader.the-variants as whole
@@ -50,3 +52,21 @@ nextAt b at = within (length b) b at
 abbrev pub stepAt : Bool → List ℕ → ℕ → Next
 stepAt true b at = packedAt b at
 stepAt false b at = nextAt b at
+
+-- the frame chunks of a reel: the offsets of those met before the first fault, and how the walk is answered
+pub record Found : Type 0 where
+  pub offsets : List ℕ
+  pub answer : Answer
+
+abbrev pub found : List ℕ → Answer → Found
+found os a = record { offsets = os; answer = a }
+
+abbrev pub afterNext : Next → (ℕ → Found) → Found
+afterNext (Fault e place) rest = found [] (Refused e place)
+afterNext (Frame from end) rest = found (from ∷ rest end .offsets) (rest end .answer)
+
+-- count frame chunks of b from offset at on; "no sub-chunk is opened"
+unfoldable pub topFrames : List ℕ → ℕ → ℕ → Found
+unfolding nextAt
+topFrames b zero at = found [] Done
+topFrames b (suc count) at = afterNext (nextAt b at) (λ end. topFrames b count end)

@@ -1,9 +1,10 @@
-// The file header, and the step from one frame chunk to the next: document 01, "Reels and the trailer", document 001, "The FLC file header".
+// The file header, the step from one frame chunk to the next, and the walk over the frame chunks of a reel: document 01, "Reels and the trailer", document 001, "The FLC file header".
 ghost use mathlib.Core.Path.{_≡_};
 ghost use Prim.Native.Nat.{_≤_};
 ghost use lib.ListN.{length};
 ghost use Rattle.walk.specs.Head.{formOk, headOf};
-ghost use Rattle.walk.specs.Walk.{packedAt, nextAt, stepAt};
+ghost use Rattle.walk.specs.Walk.{packedAt, nextAt, stepAt, topFrames};
+use answer::Answer;
 use answer::Refusal;
 
 // A file header: its first fault, or the picture's width and height, the number of frames and the file's size.
@@ -118,4 +119,25 @@ pub fn step_at(b: &[u8], packed: bool, at: usize) -> Next
         return packed_at(b, at);
     }
     next_at(b, at)
+}
+
+// Walks over the chunks of b up to the last of count frames; no frame is opened.
+pub fn walk_frames(b: &[u8], count: usize) -> Answer
+    requires { ⌜ 128 ≤ length (now b) ⌝ }
+    ensures { λ r. ⌜ r ≡ topFrames (now (b .entry)) count 128 .answer ⌝ }
+{
+    let mut at = 128;
+    let mut left = count;
+    while left > 0 {
+        match next_at(b, at) {
+            Next::Fault(e, place) => {
+                return Answer::Refused(e, place);
+            }
+            Next::Frame { from: _, end } => {
+                at = end;
+            }
+        }
+        left = left - 1;
+    }
+    Answer::Done
 }

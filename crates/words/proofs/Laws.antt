@@ -138,6 +138,14 @@ unfolding same
 same-refl [] = refl
 same-refl (x ∷ xs) = ap (λ (t : Bool). pick t (same xs xs) false) (eq-eqb x x refl) ∙ same-refl xs
 
+-- lists of other lengths are not the same
+pub same-other : (a b : List ℕ) → (length a ≡ length b → ⊥) → same a b ≡ false
+same-other a b h = go (same a b) refl
+  where
+    go : (t : Bool) → same a b ≡ t → t ≡ false
+    go true e = absurd (h (ap length (same-eq a b e)))
+    go false e = refl
+
 -- a loop that compares: at an equal byte, at another, at the end
 module _ (a b : List ℕ) (i : ℕ) (l : length a ≡ length b) where
   pub same-goes : i < length a → getD a i 0 ≡ getD b i 0 → same (drop i a) (drop i b) ≡ same (drop (suc i) a) (drop (suc i) b)

@@ -36,15 +36,32 @@ pub fn u32_at(b: &[u8], at: usize) -> usize
     u16_at(b, at) + 65536 * u16_at(b, at + 2)
 }
 
-// Copies src to dst, which is as long. Two bytes, one pair of a delta, go by themselves: the loop is made for many.
+// Copies two to four bytes of src to dst, which is as long: the first two and the last two.
+fn copy_few(dst: &mut [u8], src: &[u8])
+    requires { ⌜ (length (now src) ≡ length (now dst)) × (2 ≤ length (now src)) × (length (now src) ≤ 4) ⌝ }
+    ensures { λ _. ⌜ now (dst .exit) ≡ now (src .entry) ⌝ }
+{
+    let k = src.len() - 2;
+    let first = src[0];
+    let second = src[1];
+    let third = src[k];
+    let fourth = src[k + 1];
+    dst[0] = first;
+    dst[1] = second;
+    dst[k] = third;
+    dst[k + 1] = fourth;
+}
+
+// Copies src to dst, which is as long. A few bytes, as most packets of a delta have, go without the loop, which is compiled for many.
 pub fn copy(dst: &mut [u8], src: &[u8])
     requires { ⌜ length (now src) ≡ length (now dst) ⌝ }
     ensures { λ _. ⌜ now (dst .exit) ≡ now (src .entry) ⌝ }
 {
-    if src.len() == 2 {
-        dst[0] = src[0];
-        dst[1] = src[1];
-        return;
+    if 2 <= src.len() {
+        if src.len() <= 4 {
+            copy_few(dst, src);
+            return;
+        }
     }
     let mut i = 0;
     while i < src.len() {
@@ -53,10 +70,27 @@ pub fn copy(dst: &mut [u8], src: &[u8])
     }
 }
 
-// Sets every byte of part to value.
+// Sets one to three bytes to value: the first, the middle one and the last.
+fn fill_few(part: &mut [u8], value: u8)
+    requires { ⌜ (1 ≤ length (now part)) × (length (now part) ≤ 3) ⌝ }
+    ensures { λ _. ⌜ now (part .exit) ≡ replicate (length (now (part .entry))) value ⌝ }
+{
+    let n = part.len();
+    part[0] = value;
+    part[n / 2] = value;
+    part[n - 1] = value;
+}
+
+// Sets every byte of part to value. A few bytes, as most repeats have, go without the loop, which is compiled for many.
 pub fn fill(part: &mut [u8], value: u8)
     ensures { λ _. ⌜ now (part .exit) ≡ replicate (length (now (part .entry))) value ⌝ }
 {
+    if 1 <= part.len() {
+        if part.len() <= 3 {
+            fill_few(part, value);
+            return;
+        }
+    }
     let mut i = 0;
     while i < part.len() {
         part[i] = value;

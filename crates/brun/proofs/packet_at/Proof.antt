@@ -1,8 +1,11 @@
--- `packet_at` meets its contract: each return is the case of the definition that its tests select.
-use Rattle.brun.proofs.Laws.{packet-cut, packet-zero, packet-past, packet-short, packet-whole}
+-- `packet_at` meets its contract: each return is the case of the definition that its tests select, of a copy and of a repeat.
+use mathlib.Core.Path.{_≡_, sym}
+use Prim.Native.Nat.{_+_}
 use native.Mathlib.Omega.{arith}
-use mathlib.Core.Path.{sym}
 use borrow.Author.Needs.{needs}
+use lib.ListN.{getD}
+use Rattle.words.proofs.Laws.{magnitude-plus, magnitude-minus}
+use Rattle.brun.proofs.Laws.{data-repeat, data-copy, packet-cut, packet-zero, packet-past, packet-short, packet-whole}
 use Rattle.brun.proofs.packet_at.Statement.{statement}
 use Rattle.brun.proofs.packet_at.Tie as tie
 
@@ -15,17 +18,16 @@ returns c = sym (packet-cut _ _ _ (omega arith))
 shared-slice-read-kind : tie.Need-shared-slice-read-kind
 shared-slice-read-kind c = search needs
 
-magnitude-of-requires : tie.Need-magnitude-of-requires
-magnitude-of-requires c κs = search needs
+wide-requires : tie.Need-wide-requires
+wide-requires c κs = search needs
+
+sub-len : tie.Need-sub-len
+sub-len c = search needs
 
 returns-2 : tie.Need-returns-2
-returns-2 c = sym (packet-zero _ _ _ (omega arith) (omega arith))
-
-returns-3 : tie.Need-returns-3
-returns-3 c = sym (packet-past _ _ _ (omega arith) (omega arith) (omega arith))
-
-data-len-requires : tie.Need-data-len-requires
-data-len-requires c κs = search needs
+returns-2 c =
+    let m = magnitude-minus (getD (c .before .before .before .before .before .before .args .body .now) (c .before .before .before .before .before .before .args .at) 0) (omega arith) in
+    sym (packet-past _ _ _ (omega arith) (omega arith) (omega arith))
 
 sub-if4 : tie.Need-sub-if4
 sub-if4 c = search needs
@@ -33,19 +35,55 @@ sub-if4 c = search needs
 sub-if4-2 : tie.Need-sub-if4-2
 sub-if4-2 c = search needs
 
+returns-3 : tie.Need-returns-3
+returns-3 c =
+    let m = magnitude-minus (getD (c .before .before .before .before .before .before .before .args .body .now) (c .before .before .before .before .before .before .before .args .at) 0) (omega arith) in
+    let d = data-copy (getD (c .before .before .before .before .before .before .before .args .body .now) (c .before .before .before .before .before .before .before .args .at) 0) (omega arith) in
+    sym (packet-short _ _ _ (omega arith) (omega arith) (omega arith) (omega arith))
+
+add-t13 : tie.Need-add-t13
+add-t13 c = search needs
+
+add-t16 : tie.Need-add-t16
+add-t16 c = search needs
+
 returns-4 : tie.Need-returns-4
-returns-4 c = sym (packet-short _ _ _ (omega arith) (omega arith) (omega arith) (omega arith))
+returns-4 c =
+    let m = magnitude-minus (getD (c .before .before .before .before .before .before .before .args .body .now) (c .before .before .before .before .before .before .before .args .at) 0) (omega arith) in
+    let d = data-copy (getD (c .before .before .before .before .before .before .before .args .body .now) (c .before .before .before .before .before .before .before .args .at) 0) (omega arith) in
+    cc (packet-whole (c .before .before .before .before .before .before .before .args .body .now) (c .before .before .before .before .before .before .before .args .at) (c .before .before .before .before .before .before .before .args .left) (omega arith) (omega arith) (omega arith) (omega arith), c .before .before .wide .ensures .0)
+
+wide-requires-2 : tie.Need-wide-requires-2
+wide-requires-2 c κs = search needs
+
+returns-5 : tie.Need-returns-5
+returns-5 c =
+    let m = magnitude-plus (getD (c .before .before .before .before .before .before .args .body .now) (c .before .before .before .before .before .before .args .at) 0) (omega arith) in
+    sym (packet-zero _ _ _ (omega arith) (omega arith))
+
+returns-6 : tie.Need-returns-6
+returns-6 c =
+    let m = magnitude-plus (getD (c .before .before .before .before .before .before .before .args .body .now) (c .before .before .before .before .before .before .before .args .at) 0) (omega arith) in
+    sym (packet-past _ _ _ (omega arith) (omega arith) (omega arith))
+
+sub-if7 : tie.Need-sub-if7
+sub-if7 c = search needs
+
+returns-7 : tie.Need-returns-7
+returns-7 c =
+    let m = magnitude-plus (getD (c .before .before .before .before .before .before .before .before .args .body .now) (c .before .before .before .before .before .before .before .before .args .at) 0) (omega arith) in
+    let d = data-repeat (getD (c .before .before .before .before .before .before .before .before .args .body .now) (c .before .before .before .before .before .before .before .before .args .at) 0) (omega arith) in
+    sym (packet-short _ _ _ (omega arith) (omega arith) (omega arith) (omega arith))
 
 add-t7 : tie.Need-add-t7
 add-t7 c = search needs
 
-add-t8 : tie.Need-add-t8
-add-t8 c = search needs
-
-returns-5 : tie.Need-returns-5
-returns-5 c =
-    let a = c .before .before .before .before .before .before .before .before .args in
-    cc (packet-whole (a .body .now) (a .at) (a .left) (omega arith) (omega arith) (omega arith) (omega arith), c .before .before .before .before .magnitude-of .ensures .0, c .before .data-len .ensures .0)
+returns-8 : tie.Need-returns-8
+returns-8 c =
+    let m = magnitude-plus (getD (c .before .before .before .before .before .before .before .before .args .body .now) (c .before .before .before .before .before .before .before .before .args .at) 0) (omega arith) in
+    let d = data-repeat (getD (c .before .before .before .before .before .before .before .before .args .body .now) (c .before .before .before .before .before .before .before .before .args .at) 0) (omega arith) in
+    let e : c .before .before .before .before .before .before .before .before .args .at + 1 + 1 ≡ c .before .before .before .before .before .before .before .before .args .at + 2 = omega arith in
+    cc (packet-whole (c .before .before .before .before .before .before .before .before .args .body .now) (c .before .before .before .before .before .before .before .before .args .at) (c .before .before .before .before .before .before .before .before .args .left) (omega arith) (omega arith) (omega arith) (omega arith), c .before .before .before .wide2 .ensures .0)
 
 pub packet-at-spec : {M : Type 1} → statement M
 packet-at-spec =
@@ -54,13 +92,19 @@ packet-at-spec =
     sub-if1
     returns
     shared-slice-read-kind
-    magnitude-of-requires
+    wide-requires
+    sub-len
     returns-2
-    returns-3
-    data-len-requires
     sub-if4
     sub-if4-2
+    returns-3
+    add-t13
+    add-t16
     returns-4
+    wide-requires-2
+    returns-5
+    returns-6
+    sub-if7
+    returns-7
     add-t7
-    add-t8
-    returns-5)
+    returns-8)

@@ -1,20 +1,21 @@
--- `play_brun` meets its contract. The invariant: all pixels put at the front are those of the rows left, put from this row on.
-use Rattle.brun.proofs.Laws.{shown, brun-written, row-ends, rows-none, rows-stop, rows-played}
-use Rattle.brun.specs.Brun.{rows}
-use Rattle.answer.proofs.Laws.{VerdictIn}
-use Rattle.words.proofs.Laws.{put-nil, row-in}
-use lib.ListN.{length}
-use native.Mathlib.Omega.{arith}
-use Prim.Native.Nat.{ℕ, _≤_, _-_, _+_, _*_}
+-- `play_brun` meets its contract. The invariant: all pixels put at the front are those of the rows left, put from this row on, and these meet no fault.
 use mathlib.Core.List.{List}
 use mathlib.Core.Path.{_≡_, ap, ap₂, _∙_, sym, refl, subst}
+use Prim.Native.Nat.{ℕ, _≤_, _-_, _+_, _*_}
+use native.Mathlib.Omega.{arith}
 use borrow.Author.Needs.{needs}
+use lib.ListN.{length}
+use Rattle.words.proofs.Laws.{put-nil, row-in}
+use Rattle.answer.specs.Walk.{Ended}
+use Rattle.brun.specs.Brun.{Run, rows}
+use Rattle.brun.proofs.Laws.{shown, brun-written, brun-ended, rows-none, rows-first, rows-more, rows-played}
 use Rattle.brun.proofs.play_brun.Statement.{statement}
 use Rattle.brun.proofs.play_brun.Tie as tie
 
 abbrev Inv-loop : tie.InvT-loop
 Inv-loop picture₀ body width height at₀ row₀ picture at k =
-    (at ≤ length body) × (k ≤ height) × (length picture ≡ length picture₀)
+    (k ≤ height) × (length picture ≡ length picture₀)
+    × Ended (rows width body (height - k) at .verdict)
     × (shown picture₀ 0 (rows width body height 0) ≡ shown picture (k * width) (rows width body (height - k) at))
 
 abbrev μ-loop : tie.MeasureT-loop
@@ -25,31 +26,14 @@ loop-holds c =
     let a = c .before .before .args in
     let z : 0 ≡ 0 * a .width = omega arith in
     let y : a .height ≡ a .height - 0 = omega arith in
-    (omega arith, omega arith, refl, ap₂ (λ (to n : ℕ). shown (a .picture .now) to (rows (a .width) (a .body .now) n 0)) z y)
+    (omega arith, refl, subst (λ (n : ℕ). Ended (rows (a .width) (a .body .now) n 0 .verdict)) y (brun-ended (a .width) (a .height) (a .body .now) (c .before .before .pre .1)), ap₂ (λ (to n : ℕ). shown (a .picture .now) to (rows (a .width) (a .body .now) n 0)) z y)
 
 mul-play-row : tie.Need-mul-play-row Inv-loop μ-loop
 mul-play-row c = omega (arith, row-in (c .before .before .before .before .before .args .width) (c .before .before .before .before .before .args .height) (c .before .before .loop .row) (c .before .loop-test .taken))
 
 play-row-requires : tie.Need-play-row-requires Inv-loop μ-loop
 play-row-requires c κs =
-    (c .before .before .loop .inv .0, omega (arith, row-in (c .before .before .before .before .before .args .width) (c .before .before .before .before .before .args .height) (c .before .before .loop .row) (c .before .loop-test .taken), c .before .before .before .before .before .pre, c .before .before .loop .inv .2))
-
-enum-told : tie.Need-enum-told Inv-loop μ-loop
-enum-told c = search needs
-
-same-length : tie.Need-same-length Inv-loop μ-loop
-same-length c = c .before .before .before .before .play-row .kept .0 ∙ c .before .before .before .before .before .before .before .loop .inv .2
-
-returns : tie.Need-returns Inv-loop μ-loop
-returns c =
-    let a = c .before .before .before .before .before .before .before .before .before .before .args in
-    let l = c .before .before .before .before .before .before .before .loop in
-    c .before .before .before .before .play-row .ensures .1
-    ∙ sym (brun-written (a .width) (a .height) (a .body .now) (a .picture .now) ∙ l .inv .3
-    ∙ ap (shown (l .picture) (l .row * a .width)) (rows-stop (a .width) (a .body .now) (a .height - l .row) (l .at) (omega (arith, c .before .before .before .before .before .before .loop-test .taken)) _ (sym (c .before .before .before .before .play-row .ensures .0) ∙ c .enum-told .given .1)))
-
-enum-known-end : tie.Need-enum-known-end Inv-loop μ-loop
-enum-known-end c = search needs
+    (omega (arith, row-in (c .before .before .before .before .before .args .width) (c .before .before .before .before .before .args .height) (c .before .before .loop .row) (c .before .loop-test .taken), c .before .before .before .before .before .pre .0, c .before .before .loop .inv .1), rows-first _ _ _ _ (omega (arith, c .before .loop-test .taken)) (c .before .before .loop .inv .2))
 
 add-row : tie.Need-add-row Inv-loop μ-loop
 add-row c = search needs
@@ -59,20 +43,23 @@ loop-less c = search needs
 
 loop-again : tie.Need-loop-again Inv-loop μ-loop
 loop-again c =
-    let a = c .before .before .before .before .before .before .before .before .before .before .before .args in
-    let l = c .before .before .before .before .before .before .before .before .loop in (
-      subst (VerdictIn (a .body .now)) (sym (c .before .before .before .before .before .play-row .ensures .0) ∙ c .before .end .given .1) (row-ends _ _ _),
+    let a = c .before .before .before .before .before .before .before .before .args in
+    let l = c .before .before .before .before .before .loop in
+    let end = c .before .before .play-row .ensures .0 in
+    let e : a .height - l .row - 1 ≡ a .height - (l .row + 1) = omega arith in (
       omega arith,
-      c .before .before .before .before .before .play-row .kept .0 ∙ l .inv .2,
-      l .inv .3 ∙ rows-played (a .width) (a .height) (a .body .now) (l .picture) (l .row) (l .at) _ (c .before .before .before .before .before .before .before .loop-test .taken) (omega (arith, c .before .before .before .before .before .before .before .before .before .before .before .pre, l .inv .2)) (sym (c .before .before .before .before .before .play-row .ensures .0) ∙ c .before .end .given .1)
-          ∙ ap (λ (d : List ℕ). shown d ((l .row + 1) * a .width) (rows (a .width) (a .body .now) (a .height - (l .row + 1)) (c .before .end .given .0 .0))) (sym (c .before .before .before .before .before .play-row .ensures .1)),
+      c .before .before .play-row .kept .0 ∙ l .inv .1,
+      subst (λ (n : ℕ). Ended (rows (a .width) (a .body .now) n (c .before .before .play-row .result) .verdict)) e
+          (subst (λ (r : Run). Ended (r .verdict)) (rows-more (a .width) (a .body .now) (a .height - l .row) (l .at) (omega (arith, c .before .before .before .before .loop-test .taken)) _ end) (l .inv .2)),
+      l .inv .3 ∙ rows-played (a .width) (a .height) (a .body .now) (l .picture) (l .row) (l .at) _ (c .before .before .before .before .loop-test .taken) (omega (arith, c .before .before .before .before .before .before .before .before .pre .0, l .inv .1)) end
+          ∙ ap (λ (d : List ℕ). shown d ((l .row + 1) * a .width) (rows (a .width) (a .body .now) (a .height - (l .row + 1)) (c .before .before .play-row .result))) (sym (c .before .before .play-row .ensures .1)),
     )
 
-same-length-2 : tie.Need-same-length-2 Inv-loop μ-loop
-same-length-2 c = search needs
+same-length : tie.Need-same-length Inv-loop μ-loop
+same-length c = search needs
 
-returns-2 : tie.Need-returns-2 Inv-loop μ-loop
-returns-2 c =
+returns : tie.Need-returns Inv-loop μ-loop
+returns c =
     let a = c .before .before .before .before .args in
     let l = c .before .loop in
     sym (brun-written (a .width) (a .height) (a .body .now) (a .picture .now) ∙ l .inv .3
@@ -87,12 +74,8 @@ play-brun-spec =
     loop-holds
     mul-play-row
     play-row-requires
-    enum-told
-    same-length
-    returns
-    enum-known-end
     add-row
     loop-less
     loop-again
-    same-length-2
-    returns-2)
+    same-length
+    returns)

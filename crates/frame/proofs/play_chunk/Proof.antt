@@ -1,5 +1,5 @@
 -- `play_chunk` meets its contract: at each kind the definition computes to that kind's walk, which writes on the picture or on the palette.
-use Rattle.frame.proofs.Laws.{chunk-is, chunk-other}
+use Rattle.frame.proofs.Laws.{chunk-is, chunk-ended, chunk-other}
 use Rattle.frame.specs.Frame.{ChunkWalk, subChunk}
 use Rattle.words.specs.Writes.{written}
 use Prim.Native.Nat.{ℕ}
@@ -20,13 +20,19 @@ play-colour-requires : tie.Need-play-colour-requires
 play-colour-requires c κs = search needs
 
 play-ss2-requires : tie.Need-play-ss2-requires
-play-ss2-requires c κs = search needs
+unfolding subChunk
+play-ss2-requires c κs =
+    let p = c .before .before .before .before .before .pre in
+    (p .0 .some, p .0 .wide, p .0 .high, p .0 .pixels, chunk-ended _ _ _ _ 7 (c .before .match .keys2) (p .1))
 
 play-colour-requires-2 : tie.Need-play-colour-requires-2
 play-colour-requires-2 c κs = search needs
 
 play-lc-requires : tie.Need-play-lc-requires
-play-lc-requires c κs = search needs
+unfolding subChunk
+play-lc-requires c κs =
+    let p = c .before .before .before .before .before .pre in
+    (p .0 .wide, p .0 .pixels, chunk-ended _ _ _ _ 12 (c .before .match .keys4) (p .1))
 
 mul-play-black : tie.Need-mul-play-black
 mul-play-black c = search needs
@@ -35,7 +41,10 @@ play-black-requires : tie.Need-play-black-requires
 play-black-requires c κs = search needs
 
 play-brun-requires : tie.Need-play-brun-requires
-play-brun-requires c κs = search needs
+unfolding subChunk
+play-brun-requires c κs =
+    let p = c .before .before .before .before .before .pre in
+    (p .0 .pixels, chunk-ended _ _ _ _ 15 (c .before .match .keys6) (p .1))
 
 mul-play-copy : tie.Need-mul-play-copy
 mul-play-copy c = search needs

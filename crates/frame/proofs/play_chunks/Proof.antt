@@ -1,6 +1,7 @@
--- `play_chunks` meets its contract. The invariant: all writes on the state as found are those of the sub-chunks left on the state as it is.
-use Rattle.frame.proofs.Laws.{header-in, chunks-none, chunks-stop, pixelsOn, coloursOn, pixels-more, colours-more}
+-- `play_chunks` meets its contract. The invariant: all writes on the state as found are those of the sub-chunks left on the state as it is, and these are accepted.
+use Rattle.frame.proofs.Laws.{header-in, chunks-none, chunks-stop, chunks-first, chunks-rest, pixelsOn, coloursOn, pixels-more, colours-more}
 use Rattle.frame.specs.Frame.{subChunks}
+use Rattle.answer.specs.declared.Answer.the-variants.{Done}
 use Rattle.words.specs.Writes.{written}
 use lib.ListN.{length}
 use native.Mathlib.Omega.{arith}
@@ -16,12 +17,13 @@ Inv-loop picture₀ palette₀ b width height count at₀ left₀ picture palett
     (at ≤ length b) × (length picture ≡ length picture₀) × (length palette ≡ length palette₀)
     × (pixelsOn picture₀ (subChunks width height b count 16) ≡ pixelsOn picture (subChunks width height b left at))
     × (coloursOn palette₀ (subChunks width height b count 16) ≡ coloursOn palette (subChunks width height b left at))
+    × (subChunks width height b left at .answer ≡ Done)
 
 abbrev μ-loop : tie.MeasureT-loop
 μ-loop picture₀ palette₀ b width height count at₀ left₀ picture palette at left = left
 
 loop-holds : tie.Need-loop-holds Inv-loop μ-loop
-loop-holds c = (c .before .before .before .pre .0, refl, refl, refl, refl)
+loop-holds c = (c .before .before .before .pre .0, refl, refl, refl, refl, c .before .before .before .pre .2)
 
 header-at-requires : tie.Need-header-at-requires Inv-loop μ-loop
 header-at-requires c κs = search needs
@@ -62,7 +64,7 @@ play-chunk-requires : tie.Need-play-chunk-requires Inv-loop μ-loop
 play-chunk-requires c κs =
     let p = c .before .before .before .before .before .before .before .before .before .before .before .before .pre .1 in
     let l = c .before .before .before .before .before .before .before .before .loop in
-    record { some = p .some; wide = p .wide; high = p .high; pixels = omega (arith, p .pixels, l .inv .1); colours = omega (arith, p .colours, l .inv .2) }
+    (record { some = p .some; wide = p .wide; high = p .high; pixels = omega (arith, p .pixels, l .inv .1); colours = omega (arith, p .colours, l .inv .2) }, chunks-first _ _ _ _ _ (c .before .before .before .before .before .before .before .loop-test .taken) _ _ (sym (c .before .before .before .before .before .before .header-at .ensures) ∙ c .before .before .before .before .kind .given .1) (l .inv .5))
 
 sub-left : tie.Need-sub-left Inv-loop μ-loop
 sub-left c = search needs
@@ -82,6 +84,7 @@ loop-again c =
       c .before .before .before .before .play-chunk .kept .1 .0 ∙ l .inv .2,
       l .inv .3 ∙ pixels-more _ _ _ _ _ some _ _ q (l .picture) ∙ ap (λ (d : List ℕ). pixelsOn d (subChunks (a .width) (a .height) (a .b .now) (l .left - 1) end)) (sym (c .before .before .before .before .play-chunk .ensures .0)),
       l .inv .4 ∙ colours-more _ _ _ _ _ some _ _ q (l .palette) ∙ ap (λ (d : List ℕ). coloursOn d (subChunks (a .width) (a .height) (a .b .now) (l .left - 1) end)) (sym (c .before .before .before .before .play-chunk .ensures .1)),
+      chunks-rest _ _ _ _ _ some _ _ q (l .inv .5),
     )
 
 same-length-3 : tie.Need-same-length-3 Inv-loop μ-loop

@@ -1,6 +1,6 @@
 -- `play_frame` meets its contract: a header at fault writes nothing, any other leads to its sub-chunks.
 use Rattle.frame.proofs.Laws.{pixelsOn, coloursOn, frame-in, frame-as}
-use Rattle.frame.specs.Frame.{subChunks}
+use Rattle.frame.specs.Frame.{FrameWalk, subChunks}
 use Rattle.words.proofs.Laws.{span-length}
 use Rattle.words.specs.Writes.{written}
 use lib.ListN.{take}
@@ -34,7 +34,10 @@ play-chunks-requires c κs =
     let a = c .before .before .before .before .before .before .before .before .before .before .args in
     let s = c .before .before .before .before .count .given .0 .1 .0 in
     let i = frame-in (a .b .now) _ (sym (c .before .before .before .before .before .before .frame-header .ensures) ∙ c .before .before .before .before .count .given .1) in
-    (omega (arith, span-length (a .b .now) 0 s s (i .1) (omega arith), i .0), c .before .before .before .before .before .before .before .before .before .before .pre)
+    let z : s - 0 ≡ s = omega arith in
+    let k = ap (λ (n : ℕ). subChunks (a .width) (a .height) (take n (a .b .now)) (c .before .before .before .before .count .given .0 .0) 16) z
+    ∙ sym (frame-as (a .width) (a .height) (a .b .now) _ (sym (c .before .before .before .before .before .before .frame-header .ensures) ∙ c .before .before .before .before .count .given .1)) in
+    (omega (arith, span-length (a .b .now) 0 s s (i .1) (omega arith), i .0), c .before .before .before .before .before .before .before .before .before .before .pre .0, ap (λ (f : FrameWalk). f .answer) k ∙ c .before .before .before .before .before .before .before .before .before .before .pre .1)
 
 returns : tie.Need-returns
 unfolding written

@@ -76,14 +76,16 @@ slice-aggregate-play-frame-2 c = sym (length-take-le 768 (c .before .before .bef
 play-frame-requires : tie.Need-play-frame-requires
 play-frame-requires c κs =
     let s = size-in (c .before .before .before .before .before .before .before .before .before .before .before .before .args .width) (c .before .before .before .before .before .before .before .before .before .before .before .before .args .height) (sized (c .before .before .before .before .before .before .before)) in
-    let n = long (c .before .before .before .before .before) in
-    record {
-      some = s .0;
-      wide = s .1;
-      high = s .3;
-      pixels = le-of-eq (sym (length-take-le _ _ (n .0)));
-      colours = le-of-eq (sym (length-take-le 768 (c .before .before .before .before .before .before .before .before .before .before .before .before .args .palette .now) (n .1)));
-    }
+    let n = long (c .before .before .before .before .before) in (
+      record {
+        some = s .0;
+        wide = s .1;
+        high = s .3;
+        pixels = le-of-eq (sym (length-take-le _ _ (n .0)));
+        colours = le-of-eq (sym (length-take-le 768 (c .before .before .before .before .before .before .before .before .before .before .before .before .args .palette .now) (n .1)));
+      },
+      sym (c .before .before .before .before .check-frame .ensures) ∙ c .before .before .enum-told .given .1,
+    )
 
 same-length : tie.Need-same-length
 same-length c = search needs

@@ -1,6 +1,13 @@
--- `measure_picture` meets its contract: nothing is planned for equal pictures; else both chunks were measured, and the test is the definition's.
-use mathlib.Core.Path.{sym, _∙_}
+-- `measure_picture` meets its contract: nothing is planned for equal pictures; else the delta is measured. Where the rows have more edges than it has bytes it is shorter than the full chunk (`full-edges`); where not, that was measured too, and the test is the definition's.
+use mathlib.Core.Logic.{⊎-elim}
+use mathlib.Core.Path.{refl, sym, _∙_}
+use Prim.Native.Nat.{_+_, _<_}
+use native.Mathlib.Omega.{arith}
 use borrow.Author.Needs.{needs}
+use borrow.Author.Tests.{ltb-true, not-false}
+use lib.ListN.{length}
+use Rattle.fulls.specs.Full.{fullChunk}
+use Rattle.fulls.proofs.Edges.{full-edges}
 use Rattle.house.proofs.Laws.{picture-same, picture-delta, picture-full}
 use Rattle.house.proofs.measure_picture.Statement.{statement}
 use Rattle.house.proofs.measure_picture.Tie as tie
@@ -14,30 +21,36 @@ returns c = picture-same (c .before .before .before .before .args .width) (c .be
 measure-delta-requires : tie.Need-measure-delta-requires
 measure-delta-requires c κs = search needs
 
+more-edges-requires : tie.Need-more-edges-requires
+more-edges-requires c κs = search needs
+
 measure-full-requires : tie.Need-measure-full-requires
 measure-full-requires c κs = search needs
 
-add-if2 : tie.Need-add-if2
-add-if2 c = search needs
-
-add-t10 : tie.Need-add-t10
-add-t10 c = search needs
+add-if3 : tie.Need-add-if3
+add-if3 c = search needs
 
 returns-2 : tie.Need-returns-2
 returns-2 c =
-    let a = c .before .before .before .before .before .before .before .before .before .before .args in
-    let m = c .before .before .before .before .before .measure-delta in
-    let f = c .before .before .before .before .measure-full in
-    picture-delta (a .width) (a .height) (a .previous .now) (a .next .now) (sym (c .before .before .before .before .before .before .before .same-bytes .ensures) ∙ c .before .before .before .before .before .before .if1 .left)
-    (m .result .count) (m .result .size) (f .result .size) (m .ensures .0) (m .ensures .1) (m .ensures .2) (f .ensures .1) (c .before .if2 .taken)
+    let a = c .before .before .before .before .before .before .before .before .before .before .before .args in
+    let m = c .before .before .before .before .before .before .measure-delta in
+    let f = c .before .before .before .measure-full in
+    picture-full (a .width) (a .height) (a .previous .now) (a .next .now) (sym (c .before .before .before .before .before .before .before .before .same-bytes .ensures) ∙ c .before .before .before .before .before .before .before .if1 .left)
+    (f .result .kind) (m .result .size) (f .result .size) (f .ensures .0) (m .ensures .2) (f .ensures .1) (c .if3 .taken)
+
+add-t12 : tie.Need-add-t12
+add-t12 c = search needs
 
 returns-3 : tie.Need-returns-3
 returns-3 c =
-    let a = c .before .before .before .before .before .before .before .before .before .args in
-    let m = c .before .before .before .before .measure-delta in
-    let f = c .before .before .before .measure-full in
-    picture-full (a .width) (a .height) (a .previous .now) (a .next .now) (sym (c .before .before .before .before .before .before .same-bytes .ensures) ∙ c .before .before .before .before .before .if1 .left)
-    (f .result .kind) (m .result .size) (f .result .size) (f .ensures .0) (m .ensures .2) (f .ensures .1) (c .if2 .left)
+    let a = c .before .before .before .before .before .before .before .before .args in
+    let m = c .before .before .before .measure-delta in
+    picture-delta (a .width) (a .height) (a .previous .now) (a .next .now) (sym (c .before .before .before .before .before .same-bytes .ensures) ∙ c .before .before .before .before .if1 .left)
+    (m .result .count) (m .result .size) _ (m .ensures .0) (m .ensures .1) (m .ensures .2) refl
+    (⊎-elim {C = 6 + m .result .size < length (fullChunk (a .width) (a .height) (a .next .now))}
+    (λ w. omega (arith, w .1 .ensures .1, w .4 .left))
+    (λ w. full-edges (a .width) (a .height) (a .next .now) (m .result .size) (ltb-true _ _ (sym (c .before .before .more-edges .ensures) ∙ not-false _ (w .left))))
+    (c .before .if2 .came))
 
 pub measure-picture-spec : {M : Type 1} → statement M
 measure-picture-spec =
@@ -46,8 +59,9 @@ measure-picture-spec =
     same-bytes-requires
     returns
     measure-delta-requires
+    more-edges-requires
     measure-full-requires
-    add-if2
-    add-t10
+    add-if3
     returns-2
+    add-t12
     returns-3)

@@ -1,21 +1,24 @@
--- The invariant: the writes of the rows that are left, on the picture as it is now, give what all the body's writes give on the picture as it was; those rows lie above the height. The measure is their count.
-use mathlib.Core.Path.{_≡_, ap, _∙_, sym, refl, subst}
+-- The invariant: the writes of the rows that are left, on the picture as it is now, give what all the body's writes give on the picture as it was; those rows meet no fault and lie above the height. The measure is their count.
 use mathlib.Core.List.{List}
+use mathlib.Core.Path.{_≡_, ap, _∙_, sym, refl, subst}
 use Prim.Native.Nat.{ℕ, _≤_, _-_, _+_}
 use native.Mathlib.Omega.{arith}
 use borrow.Author.Needs.{needs}
 use lib.ListN.{length}
 use Rattle.words.specs.Writes.{written}
 use Rattle.words.proofs.Laws.{row-in}
+use Rattle.answer.specs.Walk.{Walk, Ended}
+use Rattle.answer.specs.declared.Verdict.the-variants.{Ends}
 use Rattle.answer.proofs.Laws.{after, VerdictIn}
 use Rattle.lc.specs.Lc.{rows, lc}
-use Rattle.lc.proofs.Laws.{lc-cut, lc-past, lc-open, rows-none, rows-as, rows-played, row-ends}
+use Rattle.lc.proofs.Laws.{lc-cut, lc-past, lc-open, rows-none, rows-as, rows-first, rows-played, row-ends}
 use Rattle.lc.proofs.play_lc.Statement.{statement}
 use Rattle.lc.proofs.play_lc.Tie as tie
 
 abbrev Inv-loop : tie.InvT-loop
 Inv-loop picture₀ body width height row₀ left₀ at₀ picture row left at =
     (at ≤ length body) × (row + left ≤ height) × (length picture ≡ length picture₀)
+    × Ended (rows width body left row at .verdict)
     × (after picture₀ (lc width height body) ≡ after picture (rows width body left row at))
 
 abbrev μ-loop : tie.MeasureT-loop
@@ -44,62 +47,47 @@ loop-holds : tie.Need-loop-holds Inv-loop μ-loop
 loop-holds c =
     let a = c .before .before .before .before .before .before .args in
     let k = lc-open (a .width) (a .height) (a .body .now) _ _ (c .before .before .before .if1 .left) (c .before .before .u16-at .ensures .value) (c .before .u16-at2 .ensures .value) (c .if2 .left) in
-    (omega arith, c .if2 .left, refl, ap (after (a .picture .now)) k)
+    (omega arith, c .if2 .left, refl, subst (λ (i : Walk). Ended (i .verdict)) k (c .before .before .before .before .before .before .pre .2), ap (after (a .picture .now)) k)
 
 play-row-requires : tie.Need-play-row-requires Inv-loop μ-loop
 play-row-requires c κs =
     let a = c .before .before .before .before .before .before .before .before .before .args in
     let l = c .before .before .loop in
     let r = row-in (a .width) (a .height) (l .row) (omega (arith, l .inv .1, c .before .loop-test .taken)) in
-    (l .inv .0, c .before .before .before .before .before .before .before .before .before .pre .0, omega (arith, r, c .before .before .before .before .before .before .before .before .before .pre .1, l .inv .2))
-
-enum-told : tie.Need-enum-told Inv-loop μ-loop
-enum-told c = search needs
-
-same-length : tie.Need-same-length Inv-loop μ-loop
-same-length c = c .before .before .before .before .play-row .kept .0 ∙ c .before .before .before .before .before .before .before .loop .inv .2
-
-returns-3 : tie.Need-returns-3 Inv-loop μ-loop
-returns-3 c =
-    let a = c .before .before .before .before .before .before .before .before .before .before .before .before .before .before .args in
-    let l = c .before .before .before .before .before .before .before .loop in
-    let k = rows-as (a .width) (a .body .now) (l .left) (l .row) (l .at) (c .before .before .before .before .before .before .loop-test .taken) _ (sym (c .before .before .before .before .play-row .ensures .0) ∙ c .enum-told .given .1) in
-    c .before .before .before .before .play-row .ensures .1 ∙ sym (l .inv .3 ∙ ap (after (l .picture)) k)
-
-enum-known-end : tie.Need-enum-known-end Inv-loop μ-loop
-enum-known-end c = search needs
+    (l .inv .0, c .before .before .before .before .before .before .before .before .before .pre .0, omega (arith, r, c .before .before .before .before .before .before .before .before .before .pre .1, l .inv .2), rows-first _ _ _ _ _ (c .before .loop-test .taken) (l .inv .3))
 
 add-row : tie.Need-add-row Inv-loop μ-loop
-add-row c = omega (arith, c .before .before .before .before .before .before .before .before .loop .inv .1, c .before .before .before .before .before .before .before .loop-test .taken)
+add-row c = omega (arith, c .before .before .before .before .before .loop .inv .1, c .before .before .before .before .loop-test .taken)
 
 sub-left : tie.Need-sub-left Inv-loop μ-loop
-sub-left c = omega (arith, c .before .before .before .before .before .before .before .loop-test .taken)
+sub-left c = omega (arith, c .before .before .before .before .loop-test .taken)
 
 loop-less : tie.Need-loop-less Inv-loop μ-loop
-loop-less c = omega (arith, c .before .before .before .before .before .before .before .loop-test .taken)
+loop-less c = omega (arith, c .before .before .before .before .loop-test .taken)
 
 loop-again : tie.Need-loop-again Inv-loop μ-loop
 loop-again c =
-    let a = c .before .before .before .before .before .before .before .before .before .before .before .before .before .before .before .args in
-    let l = c .before .before .before .before .before .before .before .before .loop in
-    let q = sym (c .before .before .before .before .before .play-row .ensures .0) ∙ c .before .end .given .1 in
-    let some = c .before .before .before .before .before .before .before .loop-test .taken in (
+    let a = c .before .before .before .before .before .before .before .before .before .before .before .before .args in
+    let l = c .before .before .before .before .before .loop in
+    let q = c .before .before .play-row .ensures .0 in
+    let some = c .before .before .before .before .loop-test .taken in (
       subst (VerdictIn (a .body .now)) q (row-ends (a .width) (a .body .now) (l .row) (l .at)),
       omega (arith, l .inv .1, some),
-      c .before .before .before .before .before .play-row .kept .0 ∙ l .inv .2,
-      l .inv .3 ∙ rows-played (a .width) (a .body .now) (l .picture) (l .left) (l .row) (l .at) some _ q
-          ∙ ap (λ (d : List ℕ). after d (rows (a .width) (a .body .now) (l .left - 1) (l .row + 1) (c .before .end .given .0 .0))) (sym (c .before .before .before .before .before .play-row .ensures .1)),
+      c .before .before .play-row .kept .0 ∙ l .inv .2,
+      subst (λ (i : Walk). Ended (i .verdict)) (rows-as (a .width) (a .body .now) (l .left) (l .row) (l .at) some (Ends (c .before .before .play-row .result)) q) (l .inv .3),
+      l .inv .4 ∙ rows-played (a .width) (a .body .now) (l .picture) (l .left) (l .row) (l .at) some _ q
+          ∙ ap (λ (d : List ℕ). after d (rows (a .width) (a .body .now) (l .left - 1) (l .row + 1) (c .before .before .play-row .result))) (sym (c .before .before .play-row .ensures .1)),
     )
 
-same-length-2 : tie.Need-same-length-2 Inv-loop μ-loop
-same-length-2 c = search needs
+same-length : tie.Need-same-length Inv-loop μ-loop
+same-length c = search needs
 
-returns-4 : tie.Need-returns-4 Inv-loop μ-loop
+returns-3 : tie.Need-returns-3 Inv-loop μ-loop
 unfolding written
-returns-4 c =
+returns-3 c =
     let a = c .before .before .before .before .before .before .before .before .args in
     let l = c .before .loop in
-    sym (l .inv .3 ∙ ap (after (l .picture)) (rows-none (a .width) (a .body .now) (l .left) (l .row) (l .at) (c .loop-test .left)))
+    sym (l .inv .4 ∙ ap (after (l .picture)) (rows-none (a .width) (a .body .now) (l .left) (l .row) (l .at) (c .loop-test .left)))
 
 pub play-lc-spec : {M : Type 1} → statement M
 play-lc-spec =
@@ -114,13 +102,9 @@ play-lc-spec =
     returns-2
     loop-holds
     play-row-requires
-    enum-told
-    same-length
-    returns-3
-    enum-known-end
     add-row
     sub-left
     loop-less
     loop-again
-    same-length-2
-    returns-4)
+    same-length
+    returns-3)

@@ -5,10 +5,10 @@ use native.Mathlib.Omega.{arith}
 use native.Mathlib.Nat.{sub-zero}
 use lib.ListN.{take}
 use Rattle.answer.specs.declared.Refusal.the-variants.{NoRoom}
-use Rattle.walk.proofs.Laws.{ReelIn, head-in}
+use Rattle.walk.proofs.Laws.{ReelIn, head-in, frames-refused}
 use Rattle.listing.specs.Room.{Listed}
 use Rattle.listing.proofs.Laws.{listing-long, listing-head, listing-walk}
-use Rattle.listing.proofs.Short.{listed-in, refusal-short, frames-refused}
+use Rattle.listing.proofs.Short.{listed-in, refusal-short}
 use borrow.Author.Needs.{needs}
 use Rattle.listing.proofs.list_text.Statement.{statement}
 use Rattle.listing.proofs.list_text.Tie as tie

@@ -1,13 +1,13 @@
--- The invariant: the packets that are left, from here on, come out as the whole row does. The measure is their count.
+-- The invariant: the packets that are left, from here on, come out as the whole row does. A packet of one pair is one of type 1. The measure is their count.
 use mathlib.Core.Path.{_≡_, ap, _∙_, sym, refl}
-use Prim.Native.Nat.{_≤_}
+use Prim.Native.Nat.{ℕ, _≤_, _+_, _-_}
 use native.Mathlib.Omega.{arith}
 use borrow.Author.Needs.{needs}
 use lib.ListN.{length}
-use Rattle.answer.specs.Walk.{Walk}
 use Rattle.answer.specs.Answer.{maxWidth}
+use Rattle.answer.specs.Walk.{Walk}
 use Rattle.packets.specs.Packets.{packets}
-use Rattle.packets.proofs.Laws.{packet-in, packets-stop, packets-more, packets-none}
+use Rattle.packets.proofs.Laws.{pair-in, pair-whole, packet-in, packets-stop, packets-more, packets-none}
 use Rattle.packets.proofs.check_packets.Statement.{statement}
 use Rattle.packets.proofs.check_packets.Tie as tie
 
@@ -21,18 +21,25 @@ abbrev μ-loop : tie.MeasureT-loop
 loop-holds : tie.Need-loop-holds Inv-loop μ-loop
 loop-holds c = (c .before .pre .0, c .before .pre .1, refl)
 
-packet-at-requires : tie.Need-packet-at-requires Inv-loop μ-loop
-packet-at-requires c κs = search needs
+pair-at-requires : tie.Need-pair-at-requires Inv-loop μ-loop
+pair-at-requires c κs = search needs
 
-enum-known-e : tie.Need-enum-known-e Inv-loop μ-loop
-enum-known-e c = search needs
+shared-slice-read-wide : tie.Need-shared-slice-read-wide Inv-loop μ-loop
+shared-slice-read-wide c =
+    let p = pair-in _ _ _ _ _ (sym (c .before .before .pair-at .ensures) ∙ c .before .if1 .taken) in
+    omega (arith, p .in-body)
 
-returns : tie.Need-returns Inv-loop μ-loop
-returns c =
-    sym (c .before .before .before .before .before .loop .inv .2 ∙ ap (λ (k : Walk). k .verdict) (packets-stop _ _ _ _ _ _ _ (c .before .before .before .before .loop-test .taken) _ (sym (c .before .before .before .packet-at .ensures) ∙ c .before .e .given .1)))
+wide-requires : tie.Need-wide-requires Inv-loop μ-loop
+wide-requires c κs = search needs
 
-enum-known-next : tie.Need-enum-known-next Inv-loop μ-loop
-enum-known-next c = search needs
+add-x : tie.Need-add-x Inv-loop μ-loop
+add-x c = search needs
+
+add-x-2 : tie.Need-add-x-2 Inv-loop μ-loop
+add-x-2 c = search needs
+
+add-at : tie.Need-add-at Inv-loop μ-loop
+add-at c = search needs
 
 sub-left : tie.Need-sub-left Inv-loop μ-loop
 sub-left c = search needs
@@ -42,9 +49,39 @@ loop-less c = search needs
 
 loop-again : tie.Need-loop-again Inv-loop μ-loop
 loop-again c =
+    let a = c .before .before .before .before .before .before .before .args in
+    let l = c .before .before .before .before .before .loop in
+    let p = pair-in _ _ _ _ _ (sym (c .before .before .before .pair-at .ensures) ∙ c .before .before .if1 .taken) in (
+      omega (arith, p .in-body),
+      omega (arith, p .in-row, c .wide .ensures .0, c .before .before .before .before .before .before .before .pre .2),
+      l .inv .2 ∙ ap (λ (k : Walk). k .verdict) (packets-more _ _ _ _ _ _ _ (c .before .before .before .before .loop-test .taken) _ _ _ _ (pair-whole _ _ _ _ _ p))
+          ∙ ap (λ (n : ℕ). packets (a .unit) (a .width) (a .body .now) (l .left - 1) 0 (l .at + 4) (l .x + n + 2) .verdict) (sym (c .wide .ensures .0)),
+    )
+
+packet-at-requires : tie.Need-packet-at-requires Inv-loop μ-loop
+packet-at-requires c κs = search needs
+
+enum-known-e : tie.Need-enum-known-e Inv-loop μ-loop
+enum-known-e c = search needs
+
+returns : tie.Need-returns Inv-loop μ-loop
+returns c =
+    sym (c .before .before .before .before .before .before .before .loop .inv .2 ∙ ap (λ (k : Walk). k .verdict) (packets-stop _ _ _ _ _ _ _ (c .before .before .before .before .before .before .loop-test .taken) _ (sym (c .before .before .before .packet-at .ensures) ∙ c .before .e .given .1)))
+
+enum-known-next : tie.Need-enum-known-next Inv-loop μ-loop
+enum-known-next c = search needs
+
+sub-left-2 : tie.Need-sub-left-2 Inv-loop μ-loop
+sub-left-2 c = search needs
+
+loop-less-2 : tie.Need-loop-less-2 Inv-loop μ-loop
+loop-less-2 c = search needs
+
+loop-again-2 : tie.Need-loop-again-2 Inv-loop μ-loop
+loop-again-2 c =
     let q = sym (c .before .before .before .packet-at .ensures) ∙ c .before .next .given .1 in
     let i = packet-in _ _ _ _ _ _ _ _ _ q in
-    (i .in-body, omega (arith, i .in-row), c .before .before .before .before .before .loop .inv .2 ∙ ap (λ (k : Walk). k .verdict) (packets-more _ _ _ _ _ _ _ (c .before .before .before .before .loop-test .taken) _ _ _ _ q))
+    (i .in-body, omega (arith, i .in-row), c .before .before .before .before .before .before .before .loop .inv .2 ∙ ap (λ (k : Walk). k .verdict) (packets-more _ _ _ _ _ _ _ (c .before .before .before .before .before .before .loop-test .taken) _ _ _ _ q))
 
 returns-2 : tie.Need-returns-2 Inv-loop μ-loop
 returns-2 c = sym (c .before .loop .inv .2 ∙ ap (λ (k : Walk). k .verdict) (packets-none _ _ _ _ _ _ _ (c .loop-test .left)))
@@ -56,11 +93,20 @@ check-packets-spec =
     Inv-loop
     μ-loop
     loop-holds
+    pair-at-requires
+    shared-slice-read-wide
+    wide-requires
+    add-x
+    add-x-2
+    add-at
+    sub-left
+    loop-less
+    loop-again
     packet-at-requires
     enum-known-e
     returns
     enum-known-next
-    sub-left
-    loop-less
-    loop-again
+    sub-left-2
+    loop-less-2
+    loop-again-2
     returns-2)

@@ -1,9 +1,10 @@
--- The code's tests are the definition's, in its order: each return cites the law of its case, with the numbers that the calls gave.
-use mathlib.Core.Path.{ap, sym}
-use Prim.Native.Nat.{ℕ, _*_}
+-- The code's tests are the definition's, in its order, of a repeat and of a copy: each return cites the law of its case, with the numbers that the calls gave.
+use mathlib.Core.Path.{sym}
+use Prim.Native.Nat.{_+_, _-_}
 use native.Mathlib.Omega.{arith}
 use borrow.Author.Needs.{needs}
-use Rattle.packets.proofs.Laws.{units-small, packet-cut, packet-past, packet-short, packet-whole}
+use lib.ListN.{getD}
+use Rattle.packets.proofs.Laws.{units-small, data-repeat, copied-pixels, copied-bytes, repeated-pixels, packet-cut, packet-past, packet-short, packet-whole}
 use Rattle.packets.proofs.packet_at.Statement.{statement}
 use Rattle.packets.proofs.packet_at.Tie as tie
 
@@ -28,44 +29,93 @@ add-kind c = search needs
 shared-slice-read-kind : tie.Need-shared-slice-read-kind
 shared-slice-read-kind c = search needs
 
-magnitude-of-requires : tie.Need-magnitude-of-requires
-magnitude-of-requires c κs = search needs
+wide-requires-2 : tie.Need-wide-requires-2
+wide-requires-2 c κs = search needs
+
+sub-next : tie.Need-sub-next
+sub-next c = search needs
 
 mul-next : tie.Need-mul-next
-mul-next c = omega (arith, units-small (c .before .before .before .before .before .before .args .unit) (c .magnitude-of .result) (c .before .before .before .before .before .before .pre .3) (c .magnitude-of .ensures .1))
+mul-next c = omega (arith, units-small (c .before .before .before .before .before .before .before .args .unit) (256 - c .wide2 .result) (c .before .before .before .before .before .before .before .pre .3) (omega arith))
 
 add-next : tie.Need-add-next
-add-next c = omega (arith, units-small (c .before .before .before .before .before .before .args .unit) (c .magnitude-of .result) (c .before .before .before .before .before .before .pre .3) (c .magnitude-of .ensures .1))
+add-next c = omega (arith, units-small (c .before .before .before .before .before .before .before .args .unit) (256 - c .wide2 .result) (c .before .before .before .before .before .before .before .pre .3) (omega arith))
 
 returns-2 : tie.Need-returns-2
 returns-2 c =
-    sym (packet-past _ _ _ _ _ (omega arith) (omega (arith, ap (λ (n : ℕ). c .before .before .before .before .before .before .before .args .unit * n) (c .before .magnitude-of .ensures .0))))
+    let a = c .before .before .before .before .before .before .before .before .args in
+    let m = repeated-pixels (a .unit) (getD (a .body .now) (a .at + 1) 0) (c .before .wide2 .result) (c .before .wide2 .ensures .0) (omega arith) in
+    sym (packet-past _ _ _ _ _ (omega arith) (omega arith))
 
-data-len-requires : tie.Need-data-len-requires
-data-len-requires c κs = search needs
+sub-if4 : tie.Need-sub-if4
+sub-if4 c = search needs
 
-sub-if3 : tie.Need-sub-if3
-sub-if3 c = search needs
-
-sub-if3-2 : tie.Need-sub-if3-2
-sub-if3-2 c = search needs
+sub-if4-2 : tie.Need-sub-if4-2
+sub-if4-2 c = search needs
 
 returns-3 : tie.Need-returns-3
 returns-3 c =
-    let m = ap (λ (n : ℕ). c .before .before .before .before .before .before .before .before .before .args .unit * n) (c .before .before .before .magnitude-of .ensures .0) in
-    sym (packet-short _ _ _ _ _ (omega arith) (omega (arith, m)) (omega arith))
+    let a = c .before .before .before .before .before .before .before .before .before .args in
+    let m = repeated-pixels (a .unit) (getD (a .body .now) (a .at + 1) 0) (c .before .before .wide2 .result) (c .before .before .wide2 .ensures .0) (omega arith) in
+    let d = data-repeat (a .unit) (getD (a .body .now) (a .at + 1) 0) (omega arith) in
+    sym (packet-short _ _ _ _ _ (omega arith) (omega arith) (omega arith))
 
-add-t11 : tie.Need-add-t11
-add-t11 c = search needs
+add-t17 : tie.Need-add-t17
+add-t17 c = search needs
 
-add-t10 : tie.Need-add-t10
-add-t10 c = search needs
+add-t18 : tie.Need-add-t18
+add-t18 c = search needs
 
 returns-4 : tie.Need-returns-4
 returns-4 c =
     let a = c .before .before .before .before .before .before .before .before .before .args in
-    let m = ap (λ (n : ℕ). a .unit * n) (c .before .before .before .magnitude-of .ensures .0) in
-    cc (packet-whole (a .unit) (a .width) (a .body .now) (a .at) (a .x) (omega arith) (omega (arith, m)) (omega arith), c .before .before .before .before .before .wide .ensures .0, c .before .data-len .ensures .0)
+    let m = repeated-pixels (a .unit) (getD (a .body .now) (a .at + 1) 0) (c .before .before .wide2 .result) (c .before .before .wide2 .ensures .0) (omega arith) in
+    let d = data-repeat (a .unit) (getD (a .body .now) (a .at + 1) 0) (omega arith) in
+    cc (packet-whole (a .unit) (a .width) (a .body .now) (a .at) (a .x) (omega arith) (omega arith) (omega arith), c .before .before .before .before .before .wide .ensures .0)
+
+wide-requires-3 : tie.Need-wide-requires-3
+wide-requires-3 c κs = search needs
+
+mul-len : tie.Need-mul-len
+mul-len c = omega (arith, units-small (c .before .before .before .before .before .before .before .args .unit) (c .wide3 .result) (c .before .before .before .before .before .before .before .pre .3) (omega arith))
+
+add-if5 : tie.Need-add-if5
+add-if5 c = omega (arith, units-small (c .before .before .before .before .before .before .before .args .unit) (c .wide3 .result) (c .before .before .before .before .before .before .before .pre .3) (omega arith))
+
+returns-5 : tie.Need-returns-5
+returns-5 c =
+    let a = c .before .before .before .before .before .before .before .before .args in
+    let m = copied-pixels (a .unit) (getD (a .body .now) (a .at + 1) 0) (c .before .wide3 .result) (c .before .wide3 .ensures .0) (omega arith) in
+    sym (packet-past _ _ _ _ _ (omega arith) (omega arith))
+
+sub-if6 : tie.Need-sub-if6
+sub-if6 c = search needs
+
+sub-if6-2 : tie.Need-sub-if6-2
+sub-if6-2 c = search needs
+
+returns-6 : tie.Need-returns-6
+returns-6 c =
+    let a = c .before .before .before .before .before .before .before .before .before .args in
+    let m = copied-pixels (a .unit) (getD (a .body .now) (a .at + 1) 0) (c .before .before .wide3 .result) (c .before .before .wide3 .ensures .0) (omega arith) in
+    let d = copied-bytes (a .unit) (getD (a .body .now) (a .at + 1) 0) (c .before .before .wide3 .result) (c .before .before .wide3 .ensures .0) (omega arith) in
+    sym (packet-short _ _ _ _ _ (omega arith) (omega arith) (omega arith))
+
+add-t10 : tie.Need-add-t10
+add-t10 c = search needs
+
+add-t11 : tie.Need-add-t11
+add-t11 c = search needs
+
+add-t24 : tie.Need-add-t24
+add-t24 c = search needs
+
+returns-7 : tie.Need-returns-7
+returns-7 c =
+    let a = c .before .before .before .before .before .before .before .before .before .args in
+    let m = copied-pixels (a .unit) (getD (a .body .now) (a .at + 1) 0) (c .before .before .wide3 .result) (c .before .before .wide3 .ensures .0) (omega arith) in
+    let d = copied-bytes (a .unit) (getD (a .body .now) (a .at + 1) 0) (c .before .before .wide3 .result) (c .before .before .wide3 .ensures .0) (omega arith) in
+    cc (packet-whole (a .unit) (a .width) (a .body .now) (a .at) (a .x) (omega arith) (omega arith) (omega arith), c .before .before .before .before .before .wide .ensures .0)
 
 pub packet-at-spec : {M : Type 1} → statement M
 packet-at-spec =
@@ -78,14 +128,25 @@ packet-at-spec =
     add-start
     add-kind
     shared-slice-read-kind
-    magnitude-of-requires
+    wide-requires-2
+    sub-next
     mul-next
     add-next
     returns-2
-    data-len-requires
-    sub-if3
-    sub-if3-2
+    sub-if4
+    sub-if4-2
     returns-3
-    add-t11
+    add-t17
+    add-t18
+    returns-4
+    wide-requires-3
+    mul-len
+    add-if5
+    returns-5
+    sub-if6
+    sub-if6-2
+    returns-6
     add-t10
-    returns-4)
+    add-t11
+    add-t24
+    returns-7)

@@ -72,7 +72,7 @@ part-play-frame-end : tie.Need-part-play-frame-end
 part-play-frame-end c = let i = inside (c .before .before .before .before .before .before) in omega (arith, i .1, i .2)
 
 play-frame-requires : tie.Need-play-frame-requires
-play-frame-requires c κs = exact-room (c .before .before .before .before .before .before .before .before .before .before .before .before .before .before .args .width) (c .before .before .before .before .before .before .before .before .before .before .before .before .before .before .args .height) (c .before .before .before .before .before .before .before .before .before .before .before .before .before .before .args .picture .now) (c .before .before .before .before .before .before .before .before .before .before .before .before .before .before .args .palette .now) (c .before .before .before .before .before .before .before .before .before .before .before .before .before .before .pre .1)
+play-frame-requires c κs = (exact-room (c .before .before .before .before .before .before .before .before .before .before .before .before .before .before .args .width) (c .before .before .before .before .before .before .before .before .before .before .before .before .before .before .args .height) (c .before .before .before .before .before .before .before .before .before .before .before .before .before .before .args .picture .now) (c .before .before .before .before .before .before .before .before .before .before .before .before .before .before .args .palette .now) (c .before .before .before .before .before .before .before .before .before .before .before .before .before .before .pre .1), sym (c .before .before .before .before .before .check-frame .ensures) ∙ c .before .before .before .enum-told .given .1)
 
 returns : tie.Need-returns
 returns c =

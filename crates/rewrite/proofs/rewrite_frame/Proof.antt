@@ -98,7 +98,7 @@ rewrite-accepted-requires : tie.Need-rewrite-accepted-requires
 rewrite-accepted-requires c κs =
     let s = size-in (c .before .before .before .before .before .before .before .before .before .before .before .before .before .before .before .before .before .before .before .before .args .width) (c .before .before .before .before .before .before .before .before .before .before .before .before .before .before .before .before .before .before .before .before .args .height) (sized (c .before .before .before .before .before .before .before .before .before .before .before .before)) in
     let n = long (c .before .before .before .before .before .before .before .before) in
-    (s .0, s .1, s .2, s .3, length-take-le _ _ (n .1 .0), length-take-le 768 (c .before .before .before .before .before .before .before .before .before .before .before .before .before .before .before .before .before .before .before .before .args .work-palette .now) (n .1 .1), length-take-le _ _ (n .0 .0), length-take-le 768 (c .before .before .before .before .before .before .before .before .before .before .before .before .before .before .before .before .before .before .before .before .args .previous-palette .now) (n .0 .1))
+    (s .0, s .1, s .2, s .3, length-take-le _ _ (n .1 .0), length-take-le 768 (c .before .before .before .before .before .before .before .before .before .before .before .before .before .before .before .before .before .before .before .before .args .work-palette .now) (n .1 .1), length-take-le _ _ (n .0 .0), length-take-le 768 (c .before .before .before .before .before .before .before .before .before .before .before .before .before .before .before .before .before .before .before .before .args .previous-palette .now) (n .0 .1), sym (c .before .before .before .before .before .before .before .check-frame .ensures) ∙ c .before .before .before .before .before .enum-told .given .1)
 
 same-length : tie.Need-same-length
 same-length c = search needs

@@ -1,16 +1,16 @@
 -- The picture with its last pixel set, or kept, is the one on which the packets act, and it is as long as it was.
-use mathlib.Core.Path.{_≡_, ap, _∙_, sym}
-use mathlib.Core.Logic.{⊎-elim}
 use mathlib.Core.List.{List}
+use mathlib.Core.Logic.{⊎-elim}
+use mathlib.Core.Path.{_≡_, ap, _∙_, sym, subst}
 use Prim.Native.Nat.{ℕ}
 use native.Mathlib.Omega.{arith}
 use borrow.Author.Needs.{needs}
 use lib.ListN.{length}
+use Rattle.answer.specs.Walk.{Ended}
 use Rattle.answer.proofs.Laws.{after}
-use Rattle.packets.proofs.Laws.{packets-row}
 use Rattle.packets.specs.Packets.{packets}
 use Rattle.ss2.specs.declared.LastPixel.{LastPixel}
-use Rattle.ss2.proofs.Laws.{dotted, length-dotted, line-played, line-verdict}
+use Rattle.ss2.proofs.Laws.{dotted, length-dotted, line-played, line-packets}
 use Rattle.ss2.proofs.play_line.Statement.{statement}
 use Rattle.ss2.proofs.play_line.Tie as tie
 
@@ -47,19 +47,18 @@ slice-write-picture : tie.Need-slice-write-picture
 slice-write-picture c = search needs
 
 play-packets-requires : tie.Need-play-packets-requires
-play-packets-requires c κs = (c .before .before .before .before .pre .0, omega arith, c .before .before .before .before .pre .2, omega arith, omega arith, omega (arith, kept (c .before), c .before .before .before .before .pre .3))
+play-packets-requires c κs = (omega arith, c .before .before .before .before .pre .1, omega arith, omega arith, omega (arith, kept (c .before), c .before .before .before .before .pre .2), subst Ended (line-packets _ _ _ (c .before .before .before .before .args .last) _ _) (c .before .before .before .before .pre .3))
 
 same-length : tie.Need-same-length
 same-length c = c .before .before .play-packets .kept .0 ∙ kept (c .before .before .before .before)
 
 returns : tie.Need-returns
 returns c =
-    let a = c .before .before .before .before .before .before .before .args in
-    let v = packets-row 2 (a .width) (a .body .now) (a .count) (a .row) (a .from) 0 in (
-      c .before .before .play-packets .ensures .0 ∙ v ∙ sym (line-verdict (a .width) (a .body .now) (a .row) (a .last) (a .count) (a .from)),
+    let a = c .before .before .before .before .before .before .before .args in (
+      line-packets (a .width) (a .body .now) (a .row) (a .last) (a .count) (a .from) ∙ c .before .before .play-packets .ensures .0,
       c .before .before .play-packets .ensures .1
           ∙ ap (λ (d : List ℕ). after d (packets 2 (a .width) (a .body .now) (a .count) (a .row) (a .from) 0)) (stood (c .before .before .before .before))
-          ∙ sym (line-played (a .width) (a .body .now) (a .row) (a .last) (a .count) (a .from) (a .picture .now) (c .before .before .before .before .before .before .before .pre .1) (c .before .before .before .before .before .before .before .pre .3)),
+          ∙ sym (line-played (a .width) (a .body .now) (a .row) (a .last) (a .count) (a .from) (a .picture .now) (c .before .before .before .before .before .before .before .pre .0) (c .before .before .before .before .before .before .before .pre .2)),
     )
 
 pub play-line-spec : {M : Type 1} → statement M

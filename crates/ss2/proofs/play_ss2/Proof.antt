@@ -1,22 +1,25 @@
--- The invariant: the writes of the lines that are left, on the picture as it is now, give what all the body's writes give on the picture as it was. The measure is lines and rows left, as in the check.
-use mathlib.Core.Path.{_≡_, ap, _∙_, sym, refl, subst}
+-- The invariant: the writes of the lines that are left, on the picture as it is now, give what all the body's writes give on the picture as it was, and those lines meet no fault. The measure is lines and rows left, as in the check.
 use mathlib.Core.List.{List}
+use mathlib.Core.Path.{_≡_, ap, _∙_, sym, refl, subst}
 use Prim.Native.Nat.{ℕ, _≤_, _<_, _-_, _+_}
 use native.Mathlib.Omega.{arith}
 use borrow.Author.Needs.{needs}
 use lib.ListN.{length}
-use Rattle.words.proofs.Laws.{row-in}
 use Rattle.words.specs.Writes.{written}
+use Rattle.words.proofs.Laws.{row-in}
+use Rattle.answer.specs.Walk.{Walk, Ended}
+use Rattle.answer.specs.declared.Verdict.the-variants as verdict
 use Rattle.answer.proofs.Laws.{after, VerdictIn}
 use Rattle.ss2.specs.Ss2.{ss2}
 use Rattle.ss2.specs.declared.Line.the-variants.{Down, Row}
-use Rattle.ss2.proofs.Laws.{LineIn, line-in, line-down, line-ends, linesFrom, lines-none, lines-stop, lines-down, lines-row, lines-played, ss2-cut, ss2-open}
+use Rattle.ss2.proofs.Laws.{LineIn, line-in, line-down, line-ends, linesFrom, lines-none, lines-stop, lines-down, lines-row, lines-first, lines-played, ss2-cut, ss2-open}
 use Rattle.ss2.proofs.play_ss2.Statement.{statement}
 use Rattle.ss2.proofs.play_ss2.Tie as tie
 
 abbrev Inv-loop : tie.InvT-loop
 Inv-loop picture₀ body width height left₀ at₀ row₀ picture left at row =
     (at ≤ length body) × (row ≤ height) × (length picture ≡ length picture₀)
+    × Ended (linesFrom width height body left row at .verdict)
     × (after picture₀ (ss2 width height body) ≡ after picture (linesFrom width height body left row at))
 
 abbrev μ-loop : tie.MeasureT-loop
@@ -46,7 +49,8 @@ u16-at-requires c κs = search needs
 
 loop-holds : tie.Need-loop-holds Inv-loop μ-loop
 loop-holds c =
-    (c .before .if1 .left, omega arith, refl, ap (after (c .before .before .before .before .args .picture .now)) (ss2-open _ _ _ _ (c .before .if1 .left) (c .u16-at .ensures .value)))
+    let k = ss2-open _ _ _ _ (c .before .if1 .left) (c .u16-at .ensures .value) in
+    (c .before .if1 .left, omega arith, refl, subst (λ (i : Walk). Ended (i .verdict)) k (c .before .before .before .before .pre .4), ap (after (c .before .before .before .before .args .picture .now)) k)
 
 line-at-requires : tie.Need-line-at-requires Inv-loop μ-loop
 line-at-requires c κs = search needs
@@ -61,7 +65,7 @@ returns-2 : tie.Need-returns-2 Inv-loop μ-loop
 unfolding written
 returns-2 c =
     let l = c .before .before .before .before .loop in
-    sym (l .inv .3 ∙ ap (after (l .picture)) (lines-stop _ _ _ _ _ _ (c .before .before .before .loop-test .taken) _ (sym (c .before .before .line-at .ensures) ∙ c .enum-told .given .1)))
+    sym (l .inv .4 ∙ ap (after (l .picture)) (lines-stop _ _ _ _ _ _ (c .before .before .before .loop-test .taken) _ (sym (c .before .before .line-at .ensures) ∙ c .enum-told .given .1)))
 
 enum-known-rows : tie.Need-enum-known-rows Inv-loop μ-loop
 enum-known-rows c = search needs
@@ -79,7 +83,8 @@ loop-again : tie.Need-loop-again Inv-loop μ-loop
 loop-again c =
     let i = down-in c in
     let l = c .before .before .before .before .before .loop in
-    (i .0, omega (arith, i .1), l .inv .2, l .inv .3 ∙ ap (after (l .picture)) (lines-down _ _ _ _ _ _ (c .before .before .before .before .loop-test .taken) _ (sym (c .before .before .before .line-at .ensures) ∙ c .before .rows .given .1) (down-far c) (i .1)))
+    let k = lines-down _ _ _ _ _ _ (c .before .before .before .before .loop-test .taken) _ (sym (c .before .before .before .line-at .ensures) ∙ c .before .rows .given .1) (down-far c) (i .1) in
+    (i .0, omega (arith, i .1), l .inv .2, subst (λ (i : Walk). Ended (i .verdict)) k (l .inv .3), l .inv .4 ∙ ap (after (l .picture)) k)
 
 enum-known-last : tie.Need-enum-known-last Inv-loop μ-loop
 enum-known-last c = search needs
@@ -89,54 +94,40 @@ play-line-requires c κs =
     let i = row-fits (c .before) in
     let a = c .before .before .before .before .before .before .before .before .before .before .before .args in
     let l = c .before .before .before .before .before .before .loop in
-    (i .0, c .before .before .before .before .before .before .before .before .before .before .before .pre .0, c .before .before .before .before .before .before .before .before .before .before .before .pre .1, omega (arith, row-in (a .width) (a .height) (l .row) (i .1), c .before .before .before .before .before .before .before .before .before .before .before .pre .3, l .inv .2))
-
-enum-told-2 : tie.Need-enum-told-2 Inv-loop μ-loop
-enum-told-2 c = search needs
-
-same-length-2 : tie.Need-same-length-2 Inv-loop μ-loop
-same-length-2 c = c .before .before .before .before .play-line .kept .0 ∙ c .before .before .before .before .before .before .before .before .before .before .before .loop .inv .2
-
-returns-3 : tie.Need-returns-3 Inv-loop μ-loop
-returns-3 c =
-    let l = c .before .before .before .before .before .before .before .before .before .before .before .loop in
-    let i = row-fits (c .before .before .before .before .before .before) in
-    let v = sym (c .before .before .before .before .play-line .ensures .0) ∙ c .enum-told2 .given .1 in
-    c .before .before .before .before .play-line .ensures .1
-    ∙ sym (l .inv .3 ∙ ap (after (l .picture)) (lines-row _ _ _ _ _ _ (c .before .before .before .before .before .before .before .before .before .before .loop-test .taken) _ _ _ (sym (c .before .before .before .before .before .before .before .before .before .line-at .ensures) ∙ c .before .before .before .before .before .before .before .last .given .1) (i .1) _ v))
-
-enum-known-end : tie.Need-enum-known-end Inv-loop μ-loop
-enum-known-end c = search needs
+    (c .before .before .before .before .before .before .before .before .before .before .before .pre .0, c .before .before .before .before .before .before .before .before .before .before .before .pre .1, omega (arith, row-in (a .width) (a .height) (l .row) (i .1), c .before .before .before .before .before .before .before .before .before .before .before .pre .3, l .inv .2), lines-first _ _ _ _ _ _ (c .before .before .before .before .before .loop-test .taken) _ _ _ (sym (c .before .before .before .before .line-at .ensures) ∙ c .before .before .last .given .1) (i .1) (l .inv .3))
 
 add-row-2 : tie.Need-add-row-2 Inv-loop μ-loop
-add-row-2 c = omega (arith, row-fits (c .before .before .before .before .before .before .before) .1)
+add-row-2 c = omega (arith, row-fits (c .before .before .before .before) .1)
 
 sub-left : tie.Need-sub-left Inv-loop μ-loop
-sub-left c = omega (arith, c .before .before .before .before .before .before .before .before .before .before .before .loop-test .taken)
+sub-left c = omega (arith, c .before .before .before .before .before .before .before .before .loop-test .taken)
 
 loop-less-2 : tie.Need-loop-less-2 Inv-loop μ-loop
-loop-less-2 c = omega (arith, row-fits (c .before .before .before .before .before .before .before) .1, c .before .before .before .before .before .before .before .before .before .before .before .loop-test .taken)
+loop-less-2 c = omega (arith, row-fits (c .before .before .before .before) .1, c .before .before .before .before .before .before .before .before .loop-test .taken)
 
 loop-again-2 : tie.Need-loop-again-2 Inv-loop μ-loop
 loop-again-2 c =
-    let a = c .before .before .before .before .before .before .before .before .before .before .before .before .before .before .before .before .before .args in
-    let l = c .before .before .before .before .before .before .before .before .before .before .before .before .loop in
-    let f = c .before .before .before .before .before .before .before .before .last .given .0 in
-    let i = row-fits (c .before .before .before .before .before .before .before) in
-    let v = sym (c .before .before .before .before .before .play-line .ensures .0) ∙ c .before .end .given .1 in (
+    let a = c .before .before .before .before .before .before .before .before .before .before .before .before .before .before .args in
+    let l = c .before .before .before .before .before .before .before .before .before .loop in
+    let f = c .before .before .before .before .before .last .given .0 in
+    let i = row-fits (c .before .before .before .before) in
+    let q = sym (c .before .before .before .before .before .before .before .line-at .ensures) ∙ c .before .before .before .before .before .last .given .1 in
+    let some = c .before .before .before .before .before .before .before .before .loop-test .taken in
+    let v = c .before .before .play-line .ensures .0 in (
       subst (VerdictIn (a .body .now)) v (line-ends (a .width) (a .body .now) (l .row) (f .0) (f .1 .0) (f .1 .1 .0) (i .0)),
       omega (arith, i .1),
-      c .before .before .before .before .before .play-line .kept .0 ∙ l .inv .2,
-      l .inv .3 ∙ lines-played (a .width) (a .height) (a .body .now) (l .left) (l .row) (l .at) (c .before .before .before .before .before .before .before .before .before .before .before .loop-test .taken) _ _ _ (sym (c .before .before .before .before .before .before .before .before .before .before .line-at .ensures) ∙ c .before .before .before .before .before .before .before .before .last .given .1) (i .1) (l .picture) _ v
-          ∙ ap (λ (d : List ℕ). after d (linesFrom (a .width) (a .height) (a .body .now) (l .left - 1) (l .row + 1) (c .before .end .given .0 .0))) (sym (c .before .before .before .before .before .play-line .ensures .1)),
+      c .before .before .play-line .kept .0 ∙ l .inv .2,
+      subst (λ (i : Walk). Ended (i .verdict)) (lines-row (a .width) (a .height) (a .body .now) (l .left) (l .row) (l .at) some _ _ _ q (i .1) (verdict.Ends (c .before .before .play-line .result)) v) (l .inv .3),
+      l .inv .4 ∙ lines-played (a .width) (a .height) (a .body .now) (l .left) (l .row) (l .at) some _ _ _ q (i .1) (l .picture) _ v
+          ∙ ap (λ (d : List ℕ). after d (linesFrom (a .width) (a .height) (a .body .now) (l .left - 1) (l .row + 1) (c .before .before .play-line .result))) (sym (c .before .before .play-line .ensures .1)),
     )
 
-same-length-3 : tie.Need-same-length-3 Inv-loop μ-loop
-same-length-3 c = search needs
+same-length-2 : tie.Need-same-length-2 Inv-loop μ-loop
+same-length-2 c = search needs
 
-returns-4 : tie.Need-returns-4 Inv-loop μ-loop
+returns-3 : tie.Need-returns-3 Inv-loop μ-loop
 unfolding written
-returns-4 c = let l = c .before .loop in sym (l .inv .3 ∙ ap (after (l .picture)) (lines-none _ _ _ _ _ _ (c .loop-test .left)))
+returns-3 c = let l = c .before .loop in sym (l .inv .4 ∙ ap (after (l .picture)) (lines-none _ _ _ _ _ _ (c .loop-test .left)))
 
 pub play-ss2-spec : {M : Type 1} → statement M
 play-ss2-spec =
@@ -158,13 +149,9 @@ play-ss2-spec =
     loop-again
     enum-known-last
     play-line-requires
-    enum-told-2
-    same-length-2
-    returns-3
-    enum-known-end
     add-row-2
     sub-left
     loop-less-2
     loop-again-2
-    same-length-3
-    returns-4)
+    same-length-2
+    returns-3)

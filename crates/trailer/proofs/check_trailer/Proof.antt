@@ -7,9 +7,9 @@ use borrow.Author.Needs.{needs}
 use lib.ListN.{length, take}
 use Rattle.answer.specs.declared.Answer.the-variants.{Done}
 use Rattle.walk.specs.Head.{headOf}
+use Rattle.walk.specs.Walk.{topFrames}
 use Rattle.walk.specs.declared.Head.the-variants.{Reel}
 use Rattle.walk.proofs.Laws.{ReelIn, head-in}
-use Rattle.trailer.specs.Trailer.{topFrames}
 use Rattle.trailer.proofs.Laws.{walked-long, walked-in, checked-fault, checked-refused, checked-bare, checked-compared}
 use Rattle.trailer.proofs.check_trailer.Statement.{statement}
 use Rattle.trailer.proofs.check_trailer.Tie as tie

@@ -6,9 +6,10 @@ use native.Mathlib.Omega.{arith}
 use borrow.Author.Needs.{needs}
 use lib.ListN.{length}
 use Rattle.words.specs.Writes.{put}
-use Rattle.walk.proofs.Laws.{step-in}
-use Rattle.trailer.specs.Trailer.{Found, topFrames, index}
-use Rattle.trailer.proofs.Laws.{found-none, found-fault, found-more, index-none, index-more}
+use Rattle.walk.specs.Walk.{Found, topFrames}
+use Rattle.walk.proofs.Laws.{step-in, found-none, found-fault, found-more}
+use Rattle.trailer.specs.Trailer.{index}
+use Rattle.trailer.proofs.Laws.{index-none, index-more}
 use Rattle.trailer.proofs.put_index.Statement.{statement}
 use Rattle.trailer.proofs.put_index.Tie as tie
 

@@ -4,8 +4,10 @@ use Prim.Native.Nat.{_+_, _*_, _-_}
 use native.Mathlib.Omega.{arith}
 use borrow.Author.Needs.{needs}
 use Rattle.words.specs.Words.{same}
-use Rattle.trailer.specs.Trailer.{topFrames, trailerOf}
-use Rattle.trailer.proofs.Laws.{trailer-many, padded-front, same-other}
+use Rattle.words.proofs.Laws.{same-other}
+use Rattle.walk.specs.Walk.{topFrames}
+use Rattle.trailer.specs.Trailer.{trailerOf}
+use Rattle.trailer.proofs.Laws.{trailer-many, padded-front}
 use Rattle.trailer.proofs.same_trailer.Statement.{statement}
 use Rattle.trailer.proofs.same_trailer.Tie as tie
 

@@ -6,9 +6,9 @@ use borrow.Author.Needs.{needs}
 use lib.ListN.{take}
 use Rattle.answer.specs.declared.Answer.the-variants.{Done}
 use Rattle.walk.specs.Head.{headOf}
+use Rattle.walk.specs.Walk.{topFrames}
 use Rattle.walk.specs.declared.Head.the-variants.{Reel}
 use Rattle.walk.proofs.Laws.{ReelIn, head-in}
-use Rattle.trailer.specs.Trailer.{topFrames}
 use Rattle.trailer.proofs.Laws.{trailer-many, walked-long, walked-in, wrote-fault, wrote-refused, wrote-short, wrote-back}
 use Rattle.trailer.proofs.write_trailer.Statement.{statement}
 use Rattle.trailer.proofs.write_trailer.Tie as tie

@@ -1,11 +1,11 @@
--- `copy` meets its contract. The invariant: the first i bytes are those of src, the rest as found; two bytes are stored one by one.
-use Rattle.words.proofs.Runs.{map-more, mapped-all, map-same, two-stored}
-use lib.ListN.{length, drop, take, set, getD, length-set}
-use native.Mathlib.Omega.{arith}
-use Prim.Native.Nat.{ℕ, _≤_, _-_, _+_}
+-- `copy` meets its contract. The invariant: the first i bytes are those of src, the rest as found.
 use mathlib.Core.List.{List, _++_, map}
 use mathlib.Core.Path.{_≡_, refl, ap, _∙_}
+use Prim.Native.Nat.{ℕ, _≤_, _-_, _+_}
+use native.Mathlib.Omega.{arith}
 use borrow.Author.Needs.{needs}
+use lib.ListN.{length, drop, take, set, getD}
+use Rattle.words.proofs.Runs.{map-more, mapped-all, map-same}
 use Rattle.words.proofs.copy.Statement.{statement}
 use Rattle.words.proofs.copy.Tie as tie
 
@@ -18,32 +18,23 @@ Inv-loop dst₀ src i₀ dst i = (i ≤ length src) × (dst ≡ map itself (take
 abbrev μ-loop : tie.MeasureT-loop
 μ-loop dst₀ src i₀ dst i = length src - i
 
-shared-slice-read-dst : tie.Need-shared-slice-read-dst Inv-loop μ-loop
-shared-slice-read-dst c = search needs
-
-slice-write-dst : tie.Need-slice-write-dst Inv-loop μ-loop
-slice-write-dst c = search needs
-
-shared-slice-read-dst-2 : tie.Need-shared-slice-read-dst-2 Inv-loop μ-loop
-shared-slice-read-dst-2 c = search needs
-
-slice-write-dst-2 : tie.Need-slice-write-dst-2 Inv-loop μ-loop
-slice-write-dst-2 c = omega (arith, length-set (c .before .before .before .args .dst .now) 0 (getD (c .before .before .before .args .src .now) 0 0))
+copy-few-requires : tie.Need-copy-few-requires Inv-loop μ-loop
+copy-few-requires c κs = search needs
 
 same-length : tie.Need-same-length Inv-loop μ-loop
 same-length c = search needs
 
 returns : tie.Need-returns Inv-loop μ-loop
-returns c = two-stored (c .before .before .before .args .dst .now) (c .before .before .before .args .src .now) (omega arith) (omega arith)
+returns c = c .before .before .copy-few .ensures
 
 loop-holds : tie.Need-loop-holds Inv-loop μ-loop
 loop-holds c = search needs
 
-shared-slice-read-dst-3 : tie.Need-shared-slice-read-dst-3 Inv-loop μ-loop
-shared-slice-read-dst-3 c = search needs
+shared-slice-read-dst : tie.Need-shared-slice-read-dst Inv-loop μ-loop
+shared-slice-read-dst c = search needs
 
-slice-write-dst-3 : tie.Need-slice-write-dst-3 Inv-loop μ-loop
-slice-write-dst-3 c = search needs
+slice-write-dst : tie.Need-slice-write-dst Inv-loop μ-loop
+slice-write-dst c = search needs
 
 add-i : tie.Need-add-i Inv-loop μ-loop
 add-i c = search needs
@@ -54,7 +45,7 @@ loop-less c = search needs
 loop-again : tie.Need-loop-again Inv-loop μ-loop
 loop-again c =
     let l = c .before .before .loop in
-    let a = c .before .before .before .before .args in (
+    let a = c .before .before .before .before .before .before .args in (
       omega arith,
       (ap (λ (x : List ℕ). set x (l .i) (getD (a .src .now) (l .i) 0)) (l .inv .1) ∙ map-more itself (l .i) (a .src .now) (a .dst .now) (omega arith) (omega arith)),
       search needs,
@@ -66,7 +57,7 @@ same-length-2 c = search needs
 returns-2 : tie.Need-returns-2 Inv-loop μ-loop
 returns-2 c =
     let l = c .before .loop in
-    let a = c .before .before .before .args in
+    let a = c .before .before .before .before .before .args in
     l .inv .1 ∙ mapped-all itself (l .i) (a .src .now) (a .dst .now) (omega arith) (omega arith) ∙ map-same itself (λ x. refl) (a .src .now)
 
 pub copy-spec : {M : Type 1} → statement M
@@ -75,15 +66,12 @@ copy-spec =
     (tie.spec
     Inv-loop
     μ-loop
-    shared-slice-read-dst
-    slice-write-dst
-    shared-slice-read-dst-2
-    slice-write-dst-2
+    copy-few-requires
     same-length
     returns
     loop-holds
-    shared-slice-read-dst-3
-    slice-write-dst-3
+    shared-slice-read-dst
+    slice-write-dst
     add-i
     loop-less
     loop-again

@@ -4,11 +4,10 @@ use mathlib.Core.Bool.{false}
 use Prim.Native.Nat.{_≤_}
 use borrow.Author.Needs.{needs}
 use lib.ListN.{length}
-use Rattle.walk.proofs.Laws.{step-in}
-use Rattle.trailer.specs.Trailer.{Found, topFrames}
-use Rattle.trailer.proofs.Laws.{found-none, found-fault, found-more}
-use Rattle.trailer.proofs.walk_frames.Statement.{statement}
-use Rattle.trailer.proofs.walk_frames.Tie as tie
+use Rattle.walk.specs.Walk.{Found, topFrames}
+use Rattle.walk.proofs.Laws.{step-in, found-none, found-fault, found-more}
+use Rattle.walk.proofs.walk_frames.Statement.{statement}
+use Rattle.walk.proofs.walk_frames.Tie as tie
 
 abbrev Inv-loop : tie.InvT-loop
 Inv-loop b count at₀ left₀ at left = (at ≤ length b) × (topFrames b count 128 .answer ≡ topFrames b left at .answer)
