@@ -4,7 +4,7 @@ ghost use Prim.Native.Nat.{_+_, _*_, _-_, _<_, _≤_};
 ghost use lib.ListN.{length};
 ghost use Rattle.house.specs.Writing.{output};
 ghost use Rattle.text.specs.Stored.{Stored};
-ghost use Rattle.listing.specs.Listing.{headBytes, countAt, opens, containerOf, childrenOf, ringEnd, chunkLines, listing, list};
+ghost use Rattle.listing.specs.Listing.{headBytes, countAt, opens, containerOf, childrenOf, ringEnd, listing, list};
 ghost use Rattle.listing.specs.Room.{Listed, reelLines};
 use answer::Answer;
 use answer::FLI_PSTAMP;

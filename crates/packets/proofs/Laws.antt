@@ -277,7 +277,7 @@ module _ (unit w : ℕ) (b : List ℕ) where
   unfolding written
   packets-played n row at x h t to next end q d = ap (after d) (packets-more n row at x h t to next end q)
 
-  -- of packets that meet no fault the first is whole, and the others meet none
+  -- of packets that meet no fault the first is whole
 
   pub record First (at x : ℕ) : Type 0 where
     pub whole : packetAt unit w b at x ≡ Pixels (getD b (at + 1) 0) (x + getD b at 0) (x + getD b at 0 + unit * magnitude (getD b (at + 1) 0)) (at + 2 + dataBytes unit (getD b (at + 1) 0))

@@ -144,7 +144,7 @@ fn fill_pairs(part: &mut [u8], n: usize, p: u8, q: u8)
     }
 }
 
-// Fills part with the pixel or pair value.
+// Fills part with n times the pixel or pair value.
 fn repeat(part: &mut [u8], value: &[u8], n: usize)
     requires { ⌜ (1 ≤ length (now value)) × (length (now value) ≤ 2) × (length (now part) ≡ length (now value) * n) ⌝ }
     ensures { λ _. ⌜ now (part .exit) ≡ repeated n (now (value .entry)) ⌝ }
