@@ -5,7 +5,8 @@ use lib.ListN.{length, drop, getD}
 use lib.Dec.{leb, ltb}
 use Rattle.words.specs.Words.{Bytes}
 use Rattle.words.proofs.Laws.{bytes-getD, bytes-take, bytes-drop}
-use Rattle.words.proofs.Bytewise.{Bytewise, pick-holds, bytes-join, bytes-replicate}
+use Rattle.words.proofs.Bytewise.{Bytewise, bytes-join, bytes-replicate}
+use Rattle.words.proofs.Tests.{cond-holds}
 use Rattle.answer.specs.declared.Verdict.{Verdict}
 use Rattle.answer.specs.declared.Verdict.the-variants as verdict
 use Rattle.brun.specs.Brun.{Run, onward, pixels, packetAt, afterPacket, packets, row, rows, brun}
@@ -15,7 +16,7 @@ use Rattle.brun.specs.declared.Packet.the-variants.{Fault, Pixels}
 pixels-bytes : (b : List ℕ) (at t : ℕ) → Bytes b → Bytes (pixels b at t)
 unfolding pixels
 pixels-bytes b at t h =
-    pick-holds Bytes (ltb t 128) _ _ (bytes-replicate t (getD b at 0) (bytes-getD b at h)) (bytes-take (256 - t) (drop at b) (bytes-drop at b h))
+    cond-holds Bytes (ltb t 128) _ _ (bytes-replicate t (getD b at 0) (bytes-getD b at h)) (bytes-take (256 - t) (drop at b) (bytes-drop at b h))
 
 packets-bytes : (b : List ℕ) (left k at : ℕ) → Bytes b → Bytes (packets b left k at .pixels)
 unfolding packets
@@ -29,7 +30,7 @@ packets-bytes b (suc left) zero at h = go (packetAt b at (suc left)) (λ m j. pa
 
 row-bytes : (w : ℕ) (b : List ℕ) (at : ℕ) → Bytes b → Bytes (row w b at .pixels)
 unfolding row
-row-bytes w b at h = pick-holds (λ (r : Run). Bytes (r .pixels)) (leb (at + 1) (length b)) _ _ (packets-bytes b w 0 (at + 1) h) tt
+row-bytes w b at h = cond-holds (λ (r : Run). Bytes (r .pixels)) (leb (at + 1) (length b)) _ _ (packets-bytes b w 0 (at + 1) h) tt
 
 rows-bytes : (w : ℕ) (b : List ℕ) (h at : ℕ) → Bytes b → Bytes (rows w b h at .pixels)
 unfolding rows

@@ -1,7 +1,7 @@
 -- Laws of the definitions in specs/Brun.antt that the proofs of the readers cite.
 use mathlib.Core.Path.{_≡_, ap, _∙_, sym, refl, ap₂, subst}
 use mathlib.Core.List.{List}
-use mathlib.Core.Bool.{Bool, true, false}
+use mathlib.Core.Bool.{Bool, true, false, cond}
 use Prim.Native.Nat.{ℕ, suc, zero, _≤_, _<_, _+_, _-_, _*_}
 use native.Mathlib.Nat.{not-suc-le-zero, le-of-suc-le-suc}
 use native.Mathlib.Numerals.{sub-one}
@@ -10,7 +10,7 @@ use borrow.Author.Tests.{le-leb, lt-leb, lt-ltb, le-ltb, ltb-true, ltb-false, le
 use lib.ListN.{length, drop, take, getD, replicate, length-drop, length-replicate, length-append}
 use lib.Seq.{length-take-le}
 use lib.Dec.{leb, ltb}
-use Rattle.words.specs.Words.{pick, magnitude}
+use Rattle.words.specs.Words.{magnitude}
 use Rattle.words.specs.Writes.{put, written}
 use Rattle.words.proofs.Laws.{magnitude-plus, magnitude-minus, put-append, row-in, Inside}
 use Rattle.answer.specs.Walk.{Ended}
@@ -202,7 +202,7 @@ packet-in b at left p e = subst (PacketIn b at left) e (go (leb (at + 1) (length
     t = getD b at 0
 
     go : (a z k l : Bool) → leb 1 (magnitude t) ≡ z → leb (magnitude t) left ≡ k → leb (at + 1 + dataBytes t) (length b) ≡ l
-        → PacketIn b at left (pick a (pick z (pick k (pick l (Pixels t (magnitude t) (at + 1 + dataBytes t)) (Fault BodyEnds)) (Fault PastWidth)) (Fault ZeroCount)) (Fault BodyEnds))
+        → PacketIn b at left (cond a (cond z (cond k (cond l (Pixels t (magnitude t) (at + 1 + dataBytes t)) (Fault BodyEnds)) (Fault PastWidth)) (Fault ZeroCount)) (Fault BodyEnds))
     go false z k l p q r = tt
     go true false k l p q r = tt
     go true true false l p q r = tt
@@ -231,7 +231,7 @@ pub row-length : (w : ℕ) (b : List ℕ) (at end : ℕ) → row w b at .verdict
 unfolding row
 row-length w b at end v = go (leb (at + 1) (length b)) v
   where
-    go : (c : Bool) → pick c (packets b w 0 (at + 1)) (fault BodyEnds) .verdict ≡ verdict.Ends end → length (pick c (packets b w 0 (at + 1)) (fault BodyEnds) .pixels) ≡ w
+    go : (c : Bool) → cond c (packets b w 0 (at + 1)) (fault BodyEnds) .verdict ≡ verdict.Ends end → length (cond c (packets b w 0 (at + 1)) (fault BodyEnds) .pixels) ≡ w
     go true u = omega (arith, packets-length b w 0 (at + 1) end (omega arith) u)
     go false u = fault-not-end u
 
@@ -264,7 +264,7 @@ pub row-ends : (w : ℕ) (b : List ℕ) (at : ℕ) → VerdictIn b (row w b at .
 unfolding row
 row-ends w b at = go (leb (at + 1) (length b)) refl
   where
-    go : (c : Bool) → leb (at + 1) (length b) ≡ c → VerdictIn b (pick c (packets b w 0 (at + 1)) (fault BodyEnds) .verdict)
+    go : (c : Bool) → leb (at + 1) (length b) ≡ c → VerdictIn b (cond c (packets b w 0 (at + 1)) (fault BodyEnds) .verdict)
     go true e = packets-ends b w 0 (at + 1) (leb-true (at + 1) (length b) e)
     go false e = tt
 
@@ -272,7 +272,7 @@ row-most : (w : ℕ) (b : List ℕ) (at : ℕ) → length (row w b at .pixels) �
 unfolding row
 row-most w b at = go (leb (at + 1) (length b))
   where
-    go : (c : Bool) → length (pick c (packets b w 0 (at + 1)) (fault BodyEnds) .pixels) ≤ w
+    go : (c : Bool) → length (cond c (packets b w 0 (at + 1)) (fault BodyEnds) .pixels) ≤ w
     go true = omega (arith, packets-most b w 0 (at + 1) (omega arith))
     go false = omega arith
 

@@ -3,7 +3,8 @@ use Prim.Native.Nat.{ℕ, zero, suc, _+_, _-_}
 use mathlib.Core.List.{List, [], _∷_, _++_}
 use lib.ListN.{length, getD, take, drop, replicate}
 use lib.Dec.{leb, ltb}
-use Rattle.words.specs.Words.{pick, magnitude}
+use Rattle.words.specs.Words.{magnitude}
+use mathlib.Core.Bool.{cond}
 use Rattle.answer.specs.declared.Refusal.{Refusal}
 use Rattle.answer.specs.declared.Refusal.the-variants.{BodyEnds, ZeroCount, PastWidth}
 use Rattle.answer.specs.declared.Verdict.{Verdict}
@@ -37,19 +38,19 @@ followed r k = onward (r .pixels) (r .verdict) k
 
 -- "n from 1 to 127 repeats one pixel n times; minus n, to minus 128, copies n pixels": how many bytes of data, the pixels
 unfoldable pub dataBytes : ℕ → ℕ
-dataBytes t = pick (ltb t 128) 1 (256 - t)
+dataBytes t = cond (ltb t 128) 1 (256 - t)
 
 unfoldable pub pixels : List ℕ → ℕ → ℕ → List ℕ
-pixels b at t = pick (ltb t 128) (replicate t (getD b at 0)) (take (256 - t) (drop at b))
+pixels b at t = cond (ltb t 128) (replicate t (getD b at 0)) (take (256 - t) (drop at b))
 
 module _ (b : List ℕ) where
   -- a packet of type t at offset at, where left columns are left: "zero (8), width (9), data (7)"
   unfoldable pub packetOf : ℕ → ℕ → ℕ → Packet
   unfolding dataBytes
   packetOf at left t =
-      pick (leb 1 (magnitude t))
-      (pick (leb (magnitude t) left)
-      (pick (leb (at + 1 + dataBytes t) (length b))
+      cond (leb 1 (magnitude t))
+      (cond (leb (magnitude t) left)
+      (cond (leb (at + 1 + dataBytes t) (length b))
       (Pixels t (magnitude t) (at + 1 + dataBytes t))
       (Fault BodyEnds))
       (Fault PastWidth))
@@ -58,7 +59,7 @@ module _ (b : List ℕ) where
   -- the packet at offset at: "byte there (7)"
   unfoldable pub packetAt : ℕ → ℕ → Packet
   unfolding packetOf
-  packetAt at left = pick (leb (at + 1) (length b)) (packetOf at left (getD b at 0)) (Fault BodyEnds)
+  packetAt at left = cond (leb (at + 1) (length b)) (packetOf at left (getD b at 0)) (Fault BodyEnds)
 
   -- a packet's pixels, and then the run k from its end; k is told how many columns it has filled
   abbrev pub afterPacket : ℕ → Packet → (ℕ → ℕ → Run) → Run
@@ -76,7 +77,7 @@ module _ (w : ℕ) (b : List ℕ) where
   -- "Every row: one ignored byte, then packets"
   unfoldable pub row : ℕ → Run
   unfolding packets
-  row at = pick (leb (at + 1) (length b)) (packets b w 0 (at + 1)) (fault BodyEnds)
+  row at = cond (leb (at + 1) (length b)) (packets b w 0 (at + 1)) (fault BodyEnds)
 
   -- h rows from offset at on
   unfoldable pub rows : ℕ → ℕ → Run

@@ -1,14 +1,14 @@
 -- Laws of what a call that builds a reel answers, of the header that it writes, of a frame put at an offset, and of the calls, by the order of their checks.
 use mathlib.Core.Path.{_≡_, refl, sym, ap, ap₂, _∙_}
 use mathlib.Core.List.{List, [], _∷_, _++_, append-assoc}
-use mathlib.Core.Bool.{Bool, true, false, _&&_}
+use mathlib.Core.Bool.{Bool, true, false, _&&_, cond}
 use Prim.Native.Nat.{ℕ, _+_, _*_, _≤_, _<_}
 use native.Mathlib.Omega.{arith}
 use borrow.Author.Tests.{le-leb, lt-leb, leb-true, leb-false, ltb-true, ltb-false}
 use lib.Dec.{leb, ltb}
 use lib.ListN.{length, take, drop, replicate, length-drop, take-append-drop}
 use lib.Seq.{length-take-le, drop-drop, drop-append-le}
-use Rattle.words.specs.Words.{pick, le16, le32}
+use Rattle.words.specs.Words.{le16, le32}
 use Rattle.words.specs.Writes.{put}
 use Rattle.words.proofs.Laws.{put-front, lent-back}
 use Rattle.answer.specs.Answer.{Said, done, refused, number, sizeOk, maxFrames}
@@ -31,7 +31,7 @@ use Rattle.build.specs.Building.{openReel, endOk, mostBytes, longest, fi
 -- no two answers are told alike
 
 -- closed is 1 or 0
-closed-injective : (s t : Bool) → _≡_ {A = ℕ} (pick s 1 0) (pick t 1 0) → s ≡ t
+closed-injective : (s t : Bool) → _≡_ {A = ℕ} (cond s 1 0) (cond t 1 0) → s ≡ t
 closed-injective true true p = refl
 closed-injective true false p = absurd (omega arith)
 closed-injective false true p = absurd (omega arith)
@@ -43,7 +43,7 @@ values-injective r s p =
     let h : r .height ≡ s .height = cc in
     let f : r .frames ≡ s .frames = cc in
     let e : r .end ≡ s .end = cc in
-    let t : _≡_ {A = ℕ} (pick (r .closed) 1 0) (pick (s .closed) 1 0) = cc in
+    let t : _≡_ {A = ℕ} (cond (r .closed) 1 0) (cond (s .closed) 1 0) = cc in
     let k : r .closed ≡ s .closed = closed-injective (r .closed) (s .closed) t in
     let whole : reel (r .width) (r .height) (r .frames) (r .end) (r .closed) ≡ reel (s .width) (s .height) (s .frames) (s .end) (s .closed) = cc in
     whole
@@ -77,14 +77,14 @@ module _ (room : ℕ) where
   pub longest-within : (longest room ≤ room) × (longest room ≤ mostBytes)
   longest-within = by-test (ltb room mostBytes) refl
     where
-      by-test : (t : Bool) → ltb room mostBytes ≡ t → (pick t room mostBytes ≤ room) × (pick t room mostBytes ≤ mostBytes)
+      by-test : (t : Bool) → ltb room mostBytes ≡ t → (cond t room mostBytes ≤ room) × (cond t room mostBytes ≤ mostBytes)
       by-test true e = let k = ltb-true room mostBytes e in (omega arith, omega arith)
       by-test false e = let k = ltb-false room mostBytes e in (omega arith, omega arith)
 
   pub longest-most : (n : ℕ) → n ≤ room → n ≤ mostBytes → n ≤ longest room
   longest-most n h k = by-test (ltb room mostBytes)
     where
-      by-test : (t : Bool) → n ≤ pick t room mostBytes
+      by-test : (t : Bool) → n ≤ cond t room mostBytes
       by-test true = h
       by-test false = k
 
@@ -119,8 +119,8 @@ module _ (end : ℕ) (f b : List ℕ) where
     append-done n o = by-test (fits end f b) refl (ap (λ (y : Output). y .said) o) (ap (λ (y : Output). y .bytes) o)
       where
         by-test : (t : Bool) → fits end f b ≡ t
-            → done (n ∷ []) ≡ pick t (output (written.Done (end + length f)) (put b end f)) (output (written.Refused NoRoom 0) b) .said
-            → x ≡ pick t (output (written.Done (end + length f)) (put b end f)) (output (written.Refused NoRoom 0) b) .bytes
+            → done (n ∷ []) ≡ cond t (output (written.Done (end + length f)) (put b end f)) (output (written.Refused NoRoom 0) b) .said
+            → x ≡ cond t (output (written.Done (end + length f)) (put b end f)) (output (written.Refused NoRoom 0) b) .bytes
             → (fits end f b ≡ true) × (n ≡ end + length f) × (x ≡ put b end f)
         by-test true e p q = (e, (cc), q)
         by-test false e p q = let z : _≡_ {A = ℕ} 0 1 = cc in absurd (omega arith)
@@ -130,8 +130,8 @@ module _ (end : ℕ) (f b : List ℕ) where
     append-refused e place o = by-test (fits end f b) refl (ap (λ (y : Output). y .said) o) (ap (λ (y : Output). y .bytes) o)
       where
         by-test : (t : Bool) → fits end f b ≡ t
-            → refused (number e) place ≡ pick t (output (written.Done (end + length f)) (put b end f)) (output (written.Refused NoRoom 0) b) .said
-            → x ≡ pick t (output (written.Done (end + length f)) (put b end f)) (output (written.Refused NoRoom 0) b) .bytes
+            → refused (number e) place ≡ cond t (output (written.Done (end + length f)) (put b end f)) (output (written.Refused NoRoom 0) b) .said
+            → x ≡ cond t (output (written.Done (end + length f)) (put b end f)) (output (written.Refused NoRoom 0) b) .bytes
             → (fits end f b ≡ false) × (refused (number e) place ≡ refused (number NoRoom) 0) × (x ≡ b)
         by-test true e p q = let z : _≡_ {A = ℕ} 0 1 = cc in absurd (omega arith)
         by-test false e p q = (e, p, q)
@@ -170,7 +170,7 @@ module _ (b f : List ℕ) (end k : ℕ) where
     laid-appended = by-test (leb (length f) (length (take k (drop end b)))) refl
       where
         by-test : (t : Bool) → leb (length f) (length (take k (drop end b))) ≡ t
-            → laid b end k (pick t (output (written.Done (length f)) (put (take k (drop end b)) 0 f)) (output (written.Refused NoRoom 0) (take k (drop end b)))) ≡ appended end f b
+            → laid b end k (cond t (output (written.Done (length f)) (put (take k (drop end b)) 0 f)) (output (written.Refused NoRoom 0) (take k (drop end b)))) ≡ appended end f b
         by-test true p =
             let h : length f ≤ k = omega (arith, leb-true (length f) (length (take k (drop end b))) p, length-part) in
             rw (fits-is end f b (omega arith)) (ap (λ (x : List ℕ). output (written.Done (end + length f)) x) (put-laid h part-long))
@@ -209,8 +209,8 @@ counted r o = record { said = recorded r (o .said); bytes = o .bytes }
 counted-added : (r : Reel) (f b : List ℕ) → counted r (appended (r .end) f b) ≡ added r f b
 counted-added r f b = by-test (fits (r .end) f b)
   where
-    by-test : (t : Bool) → counted r (pick t (output (written.Done (r .end + length f)) (put b (r .end) f)) (output (written.Refused NoRoom 0) b))
-        ≡ pick t (made (Done (reel (r .width) (r .height) (r .frames + 1) (r .end + length f) false)) (put b (r .end) f)) (made (Refused NoRoom 0) b)
+    by-test : (t : Bool) → counted r (cond t (output (written.Done (r .end + length f)) (put b (r .end) f)) (output (written.Refused NoRoom 0) b))
+        ≡ cond t (made (Done (reel (r .width) (r .height) (r .frames + 1) (r .end + length f) false)) (put b (r .end) f)) (made (Refused NoRoom 0) b)
     by-test true = refl
     by-test false = refl
 

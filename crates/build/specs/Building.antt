@@ -1,10 +1,9 @@
 -- Opening a reel and adding a frame: the answer, and what the lent bytes hold afterwards.
 use Prim.Native.Nat.{ℕ, _+_, _*_}
 use mathlib.Core.List.{List}
-use mathlib.Core.Bool.{Bool, false, _&&_}
+use mathlib.Core.Bool.{Bool, false, _&&_, cond}
 use lib.Dec.{leb, ltb}
 use lib.ListN.{length}
-use Rattle.words.specs.Words.{pick}
 use Rattle.words.specs.Writes.{put}
 use Rattle.answer.specs.Answer.{sizeOk, maxFrames}
 use Rattle.answer.specs.declared.Refusal.the-variants.{ShortSlice, BadSize, NoRoom, Cut, WrongTime}
@@ -21,8 +20,8 @@ use Rattle.build.specs.Header.{opened}
 unfoldable pub openReel : ℕ → ℕ → ℕ → List ℕ → Output
 unfolding opened
 openReel w h speed b =
-    pick (sizeOk w h)
-    (pick (leb 128 (length b))
+    cond (sizeOk w h)
+    (cond (leb 128 (length b))
     (made (Done (reel w h 0 128 false)) (put b 0 (opened w h speed)))
     (made (Refused NoRoom 0) b))
     (made (Refused BadSize 0) b)
@@ -37,7 +36,7 @@ mostBytes = 4294967295
 
 -- how many of so many lent bytes a file may fill
 abbrev pub longest : ℕ → ℕ
-longest room = pick (ltb room mostBytes) room mostBytes
+longest room = cond (ltb room mostBytes) room mostBytes
 
 -- whether the bytes f have room at offset end: else 3, "the output is shorter than the bytes to be written, or a size passes 32 bits"
 abbrev pub fits : ℕ → List ℕ → List ℕ → Bool
@@ -45,27 +44,27 @@ fits end f b = leb (end + length f) (length b) && leb (end + length f) mostBytes
 
 -- f put at offset end, all else unchanged; done gives where it ends
 abbrev pub appended : ℕ → List ℕ → List ℕ → Output
-appended end f b = pick (fits end f b) (output (written.Done (end + length f)) (put b end f)) (output (written.Refused NoRoom 0) b)
+appended end f b = cond (fits end f b) (output (written.Done (end + length f)) (put b end f)) (output (written.Refused NoRoom 0) b)
 
 -- the frame f put at the record's end, which then is where it ends
 abbrev pub added : Reel → List ℕ → List ℕ → Output
 added r f b =
-    pick (fits (r .end) f b)
+    cond (fits (r .end) f b)
     (made (Done (reel (r .width) (r .height) (r .frames + 1) (r .end + length f) false)) (put b (r .end) f))
     (made (Refused NoRoom 0) b)
 
 -- refusal 18: "adding to a closed reel, a frame past 4,000"
 abbrev pub addOk : ℕ → Bool → Bool
-addOk frames closed = pick closed false (ltb frames maxFrames)
+addOk frames closed = cond closed false (ltb frames maxFrames)
 
 -- "Writing: 18, 2, 1, 3", the record (4) after 1; the house frame from the showing state (p, q) to the next (p′, q′)
 unfoldable pub addFrame : Reel → List ℕ → List ℕ → List ℕ → List ℕ → List ℕ → Output
 unfolding houseFrame
 addFrame r b p q p′ q′ =
-    pick (addOk (r .frames) (r .closed))
-    (pick (sizeOk (r .width) (r .height))
-    (pick (enough (r .width * r .height) p q && enough (r .width * r .height) p′ q′)
-    (pick (endOk (r .end) (length b))
+    cond (addOk (r .frames) (r .closed))
+    (cond (sizeOk (r .width) (r .height))
+    (cond (enough (r .width * r .height) p q && enough (r .width * r .height) p′ q′)
+    (cond (endOk (r .end) (length b))
     (added r (houseFrame (r .width) (r .height) (front (r .width * r .height) p q) (front (r .width * r .height) p′ q′)) b)
     (made (Refused Cut 0) b))
     (made (Refused ShortSlice 0) b))

@@ -1,15 +1,15 @@
 -- The 128-byte file header as it is written (document 001, "The FLC file header"; document 01, "Reels and the trailer").
 use Prim.Native.Nat.{ℕ}
 use mathlib.Core.List.{List, [], _++_}
-use mathlib.Core.Bool.{_&&_}
+use mathlib.Core.Bool.{_&&_, cond}
 use lib.Dec.{eqb}
 use lib.ListN.{replicate}
-use Rattle.words.specs.Words.{pick, le16, le32}
+use Rattle.words.specs.Words.{le16, le32}
 use Rattle.answer.specs.Format.{FLC-MAGIC}
 
 -- "aspect 1:1 (6:5 at 320 by 200)": one side of it, x at 320 by 200
 abbrev pub aspect : ℕ → ℕ → ℕ → ℕ
-aspect w h x = pick (eqb w 320 && eqb h 200) x 1
+aspect w h x = cond (eqb w 320 && eqb h 200) x 1
 
 -- "creator and updater hex 464C4942"
 abbrev pub FLIB : ℕ

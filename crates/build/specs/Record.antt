@@ -1,8 +1,7 @@
 -- A reel's record, and what the calls that build a reel answer.
 use Prim.Native.Nat.{ℕ}
 use mathlib.Core.List.{List, [], _∷_}
-use mathlib.Core.Bool.{Bool}
-use Rattle.words.specs.Words.{pick}
+use mathlib.Core.Bool.{Bool, cond}
 use Rattle.answer.specs.Answer.{Said, done, refused, number}
 use Rattle.house.specs.Writing.{Output}
 use Rattle.build.specs.declared.Reel.{Reel}
@@ -15,7 +14,7 @@ reel w h frames end closed = record { width = w; height = h; frames = frames; en
 
 -- the values of a record; closed is 1 or 0
 abbrev pub values : Reel → List ℕ
-values r = r .width ∷ r .height ∷ r .frames ∷ r .end ∷ pick (r .closed) 1 0 ∷ []
+values r = r .width ∷ r .height ∷ r .frames ∷ r .end ∷ cond (r .closed) 1 0 ∷ []
 
 -- what an answer says, in the paper's numbers
 abbrev pub toldBuilt : Built → Said

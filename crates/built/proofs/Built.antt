@@ -3,7 +3,7 @@
 -- first state; and the header fields that the close sets are those that the check reads.
 use mathlib.Core.Path.{_≡_, refl, sym, ap, ap₂, _∙_, subst}
 use mathlib.Core.List.{List, [], _∷_, _++_, append-assoc, append-nil}
-use mathlib.Core.Bool.{Bool, true, false, _&&_}
+use mathlib.Core.Bool.{Bool, true, false, _&&_, cond}
 use Prim.Native.Nat.{ℕ, suc, _+_, _-_, _*_, _≤_, _<_}
 use native.Mathlib.Omega.{arith}
 use native.Mathlib.Numerals.{sub-one}
@@ -11,7 +11,7 @@ use borrow.Author.Tests.{le-leb, leb-true}
 use lib.Dec.{leb}
 use lib.ListN.{length, take, drop, length-append}
 use lib.Seq.{take-at, drop-at}
-use Rattle.words.specs.Words.{pick, u32At}
+use Rattle.words.specs.Words.{u32At}
 use Rattle.words.specs.Writes.{put}
 use Rattle.words.proofs.There.{put-behind, drop-word32}
 use Rattle.answer.specs.Answer.{done, State, blank, sizeOk, maxFrames}
@@ -87,20 +87,20 @@ module _ (w h speed : ℕ) (b : List ℕ) (r : Reel) (first : State) (rest : Lis
   frames-close : closeFrames open-reel b ≡ outcomeWith (ringWritten open-reel ring b) shows-last first
   unfolding closeFrames
   frames-close =
-      ap (λ (t : Bool). pick t (endedBy open-reel b (playAll true (suc (length rest) - 1) w h (take end b))) (closing (Refused Cut 0) b (blank n) (blank n)))
+      ap (λ (t : Bool). cond t (endedBy open-reel b (playAll true (suc (length rest) - 1) w h (take end b))) (closing (Refused Cut 0) b (blank n) (blank n)))
       (ap₂ (λ (x y : Bool). x && y) (le-leb 128 end (omega arith)) (le-leb end (length b) inside))
       ∙ ap (endedBy open-reel b) own-shows
-      ∙ ap (λ (t : Bool). pick t (outcomeWith (ringWritten open-reel ring b) shows-last first) (closing (Refused Cut 0) b shows-last first)) (le-leb end end (omega arith))
+      ∙ ap (λ (t : Bool). cond t (outcomeWith (ringWritten open-reel ring b) shows-last first) (closing (Refused Cut 0) b shows-last first)) (le-leb end end (omega arith))
 
   module _ (p q p′ q′ : List ℕ) where
     close-is : closeReel open-reel b p q p′ q′
-        ≡ pick (enough n p q && enough n p′ q′) (laid n (outcomeWith (ringWritten open-reel ring b) shows-last first) p q p′ q′) (closed (Refused ShortSlice 0) b p q p′ q′)
+        ≡ cond (enough n p q && enough n p′ q′) (laid n (outcomeWith (ringWritten open-reel ring b) shows-last first) p q p′ q′) (closed (Refused ShortSlice 0) b p q p′ q′)
     unfolding closeReel
     close-is =
-        ap₂ (λ (s t : Bool). pick s (pick t (pick (enough n p q && enough n p′ q′) (laid n (closeFrames open-reel b) p q p′ q′) (closed (Refused ShortSlice 0) b p q p′ q′))
+        ap₂ (λ (s t : Bool). cond s (cond t (cond (enough n p q && enough n p′ q′) (laid n (closeFrames open-reel b) p q p′ q′) (closed (Refused ShortSlice 0) b p q p′ q′))
         (closed (Refused BadSize 0) b p q p′ q′)) (closed (Refused WrongTime 0) b p q p′ q′))
         (ap₂ (λ (x y : Bool). x && y) (le-leb 1 (suc (length rest)) (omega arith)) (le-leb (suc (length rest)) maxFrames (i .few))) ok
-        ∙ ap (λ (c : Closing). pick (enough n p q && enough n p′ q′) (laid n c p q p′ q′) (closed (Refused ShortSlice 0) b p q p′ q′)) frames-close
+        ∙ ap (λ (c : Closing). cond (enough n p q && enough n p′ q′) (laid n c p q p′ q′) (closed (Refused ShortSlice 0) b p q p′ q′)) frames-close
 
   -- the bytes with the ring
 
@@ -177,23 +177,23 @@ module _ (w h speed : ℕ) (b : List ℕ) (r : Reel) (first : State) (rest : Lis
     close-finishes e =
         subst (λ (c : Closed). Finished w h speed first rest (c .bytes) r′) (sym same) (by-room (enough n p q && enough n p′ q′) (ap (λ (c : Closed). c .said) (sym same) ∙ e))
       where
-        same : closeReel r b p q p′ q′ ≡ pick (enough n p q && enough n p′ q′) (laid n (outcomeWith (ringWritten open-reel ring b) shows-last first) p q p′ q′) (closed (Refused ShortSlice 0) b p q p′ q′)
+        same : closeReel r b p q p′ q′ ≡ cond (enough n p q && enough n p′ q′) (laid n (outcomeWith (ringWritten open-reel ring b) shows-last first) p q p′ q′) (closed (Refused ShortSlice 0) b p q p′ q′)
         same = ap (λ (x : Reel). closeReel x b p q p′ q′) (i .is) ∙ close-is p q p′ q′
 
         done-reel : (x : Reel) → done (values x) ≡ toldBuilt (Done r′) → x ≡ r′
         done-reel x d = let z = told-built-injective (Done x) (Done r′) d in cc
 
         by-fit : (t : Bool) → fits end ring b ≡ t
-            → pick t (made (Done (reel w h (suc (length rest)) (end + length ring) true)) (closedHeader (end + length ring) (suc (length rest)) (secondAt b) (put b end ring))) (made (Refused NoRoom 0) b) .said ≡ toldBuilt (Done r′)
-            → Finished w h speed first rest (pick t (made (Done (reel w h (suc (length rest)) (end + length ring) true)) (closedHeader (end + length ring) (suc (length rest)) (secondAt b) (put b end ring))) (made (Refused NoRoom 0) b) .bytes) r′
+            → cond t (made (Done (reel w h (suc (length rest)) (end + length ring) true)) (closedHeader (end + length ring) (suc (length rest)) (secondAt b) (put b end ring))) (made (Refused NoRoom 0) b) .said ≡ toldBuilt (Done r′)
+            → Finished w h speed first rest (cond t (made (Done (reel w h (suc (length rest)) (end + length ring) true)) (closedHeader (end + length ring) (suc (length rest)) (secondAt b) (put b end ring))) (made (Refused NoRoom 0) b) .bytes) r′
         by-fit true k d =
             subst (λ (x : Reel). Finished w h speed first rest (closedHeader (end + length ring) (suc (length rest)) (secondAt b) (put b end ring)) x)
             (ap (λ (m : ℕ). reel w h (suc (length rest)) m true) (sym size-is) ∙ done-reel (reel w h (suc (length rest)) (end + length ring) true) d) (finished k)
         by-fit false k d = let z : _≡_ {A = ℕ} 0 1 = cc in absurd (omega arith)
 
         by-room : (t : Bool)
-            → pick t (laid n (outcomeWith (ringWritten open-reel ring b) shows-last first) p q p′ q′) (closed (Refused ShortSlice 0) b p q p′ q′) .said ≡ toldBuilt (Done r′)
-            → Finished w h speed first rest (pick t (laid n (outcomeWith (ringWritten open-reel ring b) shows-last first) p q p′ q′) (closed (Refused ShortSlice 0) b p q p′ q′) .bytes) r′
+            → cond t (laid n (outcomeWith (ringWritten open-reel ring b) shows-last first) p q p′ q′) (closed (Refused ShortSlice 0) b p q p′ q′) .said ≡ toldBuilt (Done r′)
+            → Finished w h speed first rest (cond t (laid n (outcomeWith (ringWritten open-reel ring b) shows-last first) p q p′ q′) (closed (Refused ShortSlice 0) b p q p′ q′) .bytes) r′
         by-room true d = by-fit (fits end ring b) refl d
         by-room false d = let z : _≡_ {A = ℕ} 0 1 = cc in absurd (omega arith)
 
@@ -206,8 +206,8 @@ module _ (w h speed : ℕ) (b : List ℕ) (r : Reel) (first : State) (rest : Lis
         let small = house-small w h shows-last first (z .0) (z .1) (z .2) (z .3) (each-last w h (each-rest w h (i .each-sized)) first (each-first w h (i .each-sized))) (each-first w h (i .each-sized)) in
         ap (λ (x : Reel). closeReel x b p q p′ q′ .said) (i .is)
         ∙ ap (λ (c : Closed). c .said) (close-is p q p′ q′)
-        ∙ ap₂ (λ (s t : Bool). pick (s && t) (laid n (outcomeWith (ringWritten open-reel ring b) shows-last first) p q p′ q′) (closed (Refused ShortSlice 0) b p q p′ q′) .said) e f
-        ∙ ap₂ (λ (s t : Bool). pick (s && t) (made (Done (reel w h (suc (length rest)) (end + length ring) true)) (closedHeader (end + length ring) (suc (length rest)) (secondAt b) (put b end ring))) (made (Refused NoRoom 0) b) .said)
+        ∙ ap₂ (λ (s t : Bool). cond (s && t) (laid n (outcomeWith (ringWritten open-reel ring b) shows-last first) p q p′ q′) (closed (Refused ShortSlice 0) b p q p′ q′) .said) e f
+        ∙ ap₂ (λ (s t : Bool). cond (s && t) (made (Done (reel w h (suc (length rest)) (end + length ring) true)) (closedHeader (end + length ring) (suc (length rest)) (secondAt b) (put b end ring))) (made (Refused NoRoom 0) b) .said)
         (le-leb (end + length ring) (length b) (omega (arith, at, room, small))) (le-leb (end + length ring) mostBytes (omega (arith, at, word, small)))
         ∙ ap (λ (m : ℕ). toldBuilt (Done (reel w h (suc (length rest)) m true))) size-is
 

@@ -1,12 +1,11 @@
 -- A file of a closed header, the frames of some states and the ring shows just those states, and the check accepts it.
 use mathlib.Core.Path.{_≡_, refl, sym, ap, ap₂, _∙_, subst}
 use mathlib.Core.List.{List, [], _∷_, _++_, append-assoc, append-nil}
-use mathlib.Core.Bool.{Bool, true, false, _&&_}
+use mathlib.Core.Bool.{Bool, true, false, _&&_, cond}
 use Prim.Native.Nat.{ℕ, suc, _+_, _-_, _*_, _≤_, _<_}
 use native.Mathlib.Omega.{arith}
 use lib.ListN.{length, take, drop, length-append}
 use lib.Seq.{take-at, drop-at}
-use Rattle.words.specs.Words.{pick}
 use Rattle.words.proofs.Laws.{same-refl}
 use Rattle.words.proofs.There.{there-drop}
 use Rattle.answer.specs.Answer.{done, State, blank, sizeOk, maxFrames, told}
@@ -88,9 +87,9 @@ module _ (w h speed : ℕ) (ok : sizeOk w h ≡ true) (first : State) (rest : Li
     unfolding checkReel
     file-accepted p q p′ q′ e f =
         ap (λ (x : Head). afterHead file x p q p′ q′ .said) file-read
-        ∙ ap₂ (λ (s t : Bool). pick (s && t) (checkedBy (w * h) (playAll false (suc (length rest)) w h (take size file)) p q p′ q′) (checked (said.Refused ShortSlice 0) p q p′ q′) .said) e f
+        ∙ ap₂ (λ (s t : Bool). cond (s && t) (checkedBy (w * h) (playAll false (suc (length rest)) w h (take size file)) p q p′ q′) (checked (said.Refused ShortSlice 0) p q p′ q′) .said) e f
         ∙ ap (λ (x : Shown). told (ringAnswer x)) played
-        ∙ ap₂ (λ (s t : Bool). told (pick (s && t) said.Done (said.Refused BadRing (plays .last)))) (same-refl (first .picture)) (same-refl (first .palette))
+        ∙ ap₂ (λ (s t : Bool). told (cond (s && t) said.Done (said.Refused BadRing (plays .last)))) (same-refl (first .picture)) (same-refl (first .palette))
 
     -- the two frame chunks that the header names
     abbrev frame-2 : ℕ

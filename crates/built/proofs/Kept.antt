@@ -2,17 +2,17 @@
 use mathlib.Core.Path.{_≡_, refl, sym, ap, _∙_}
 use mathlib.Core.List.{List, [], _++_, append-assoc}
 use mathlib.Core.Logic.{_⊎_, inl, inr}
-use mathlib.Core.Bool.{Bool, true, false, _&&_}
+use mathlib.Core.Bool.{Bool, true, false, _&&_, cond}
 use Prim.Native.Nat.{ℕ, _+_, _*_, _-_, _≤_, _<_}
 use native.Mathlib.Omega.{arith}
 use borrow.Author.Tests.{leb-true}
 use lib.Dec.{leb}
 use lib.ListN.{length, take, drop, getD, List·getD-append, length-append}
 use lib.Seq.{getD-append-add, getD-take, getD-drop, length-take-le}
-use Rattle.words.specs.Words.{pick, le16, le32}
+use Rattle.words.specs.Words.{le16, le32}
 use Rattle.words.specs.Writes.{put}
 use Rattle.words.proofs.Laws.{length-put}
-use Rattle.words.proofs.Bytewise.{pick-holds}
+use Rattle.words.proofs.Tests.{cond-holds}
 use Rattle.answer.specs.Answer.{Said, done, refused, State, blank, sizeOk}
 use Rattle.answer.specs.declared.Refusal.{Refusal}
 use Rattle.answer.specs.declared.Refusal.the-variants.{ShortSlice, BadSize, NoRoom, Cut, WrongTime}
@@ -63,8 +63,8 @@ module _ (r : Reel) (b p q p′ q′ : List ℕ) (number place : ℕ) where
       (by (endOk (r .end) (length b)) _ Cut
       (by (fits (r .end) (houseFrame (r .width) (r .height) (front (r .width * r .height) p q) (front (r .width * r .height) p′ q′)) b) _ NoRoom done-not-refused))))
     where
-      by : (c : Bool) (x : Output) (e : Refusal) → KeptBy (x .said) (x .bytes) → KeptBy (pick c x (made (Refused e 0) b) .said) (pick c x (made (Refused e 0) b) .bytes)
-      by c x e k = pick-holds (λ (o : Output). KeptBy (o .said) (o .bytes)) c x (made (Refused e 0) b) k (λ d. refl)
+      by : (c : Bool) (x : Output) (e : Refusal) → KeptBy (x .said) (x .bytes) → KeptBy (cond c x (made (Refused e 0) b) .said) (cond c x (made (Refused e 0) b) .bytes)
+      by c x e k = cond-holds (λ (o : Output). KeptBy (o .said) (o .bytes)) c x (made (Refused e 0) b) k (λ d. refl)
 
   pub close-refused : closeReel r b p q p′ q′ .said ≡ refused number place → closeReel r b p q p′ q′ .bytes ≡ b
   unfolding closeReel closeFrames
@@ -72,18 +72,18 @@ module _ (r : Reel) (b p q p′ q′ : List ℕ) (number place : ℕ) where
       by (closeOk (r .frames) (r .closed)) _ WrongTime
       (by (sizeOk (r .width) (r .height)) _ BadSize
       (by (enough (r .width * r .height) p q && enough (r .width * r .height) p′ q′) _ ShortSlice
-      (pick-holds (λ (c : Closing). KeptBy (c .said) (c .bytes)) (endOk (r .end) (length b)) _ _
+      (cond-holds (λ (c : Closing). KeptBy (c .said) (c .bytes)) (endOk (r .end) (length b)) _ _
       (by-play (playAll true (r .frames - 1) (r .width) (r .height) (take (r .end) b) .result) (playAll true (r .frames - 1) (r .width) (r .height) (take (r .end) b) .last) (playAll true (r .frames - 1) (r .width) (r .height) (take (r .end) b) .one))
       (λ d. refl))))
     where
-      by : (c : Bool) (x : Closed) (e : Refusal) → KeptBy (x .said) (x .bytes) → KeptBy (pick c x (closed (Refused e 0) b p q p′ q′) .said) (pick c x (closed (Refused e 0) b p q p′ q′) .bytes)
-      by c x e k = pick-holds (λ (o : Closed). KeptBy (o .said) (o .bytes)) c x (closed (Refused e 0) b p q p′ q′) k (λ d. refl)
+      by : (c : Bool) (x : Closed) (e : Refusal) → KeptBy (x .said) (x .bytes) → KeptBy (cond c x (closed (Refused e 0) b p q p′ q′) .said) (cond c x (closed (Refused e 0) b p q p′ q′) .bytes)
+      by c x e k = cond-holds (λ (o : Closed). KeptBy (o .said) (o .bytes)) c x (closed (Refused e 0) b p q p′ q′) k (λ d. refl)
 
       by-play : (x : Ran) (s t : State) → KeptBy (ended r b x s t .said) (ended r b x s t .bytes)
       by-play (Stopped e at) s t = λ d. refl
       by-play (To last next) s t =
-          pick-holds (λ (c : Closing). KeptBy (c .said) (c .bytes)) (leb (r .end) next) _ _
-          (pick-holds (λ (o : Output). KeptBy (o .said) (o .bytes)) (fits (r .end) (houseFrame (r .width) (r .height) s t) b) _ _ done-not-refused (λ d. refl)) (λ d. refl)
+          cond-holds (λ (c : Closing). KeptBy (c .said) (c .bytes)) (leb (r .end) next) _ _
+          (cond-holds (λ (o : Output). KeptBy (o .said) (o .bytes)) (fits (r .end) (houseFrame (r .width) (r .height) s t) b) _ _ done-not-refused (λ d. refl)) (λ d. refl)
 
 -- every other header byte
 
@@ -117,11 +117,11 @@ module _ (i : ℕ) (o : Other i) where
       (by (sizeOk (r .width) (r .height)) _ BadSize
       (by (enough (r .width * r .height) p q && enough (r .width * r .height) p′ q′) _ ShortSlice (by-record (endOk (r .end) (length b)) refl)))
     where
-      by : (c : Bool) (x : Closed) (e : Refusal) → getD (x .bytes) i 0 ≡ getD b i 0 → getD (pick c x (closed (Refused e 0) b p q p′ q′) .bytes) i 0 ≡ getD b i 0
-      by c x e k = pick-holds (λ (y : Closed). getD (y .bytes) i 0 ≡ getD b i 0) c x (closed (Refused e 0) b p q p′ q′) k refl
+      by : (c : Bool) (x : Closed) (e : Refusal) → getD (x .bytes) i 0 ≡ getD b i 0 → getD (cond c x (closed (Refused e 0) b p q p′ q′) .bytes) i 0 ≡ getD b i 0
+      by c x e k = cond-holds (λ (y : Closed). getD (y .bytes) i 0 ≡ getD b i 0) c x (closed (Refused e 0) b p q p′ q′) k refl
 
       by-fit : (f : List ℕ) (t : Bool) → fits (r .end) f b ≡ t → 128 ≤ r .end
-          → getD (pick t (made (Done (reel (r .width) (r .height) (r .frames) (r .end + length f) true)) (closedHeader (r .end + length f) (r .frames) (secondAt b) (put b (r .end) f))) (made (Refused NoRoom 0) b) .bytes) i 0 ≡ getD b i 0
+          → getD (cond t (made (Done (reel (r .width) (r .height) (r .frames) (r .end + length f) true)) (closedHeader (r .end + length f) (r .frames) (secondAt b) (put b (r .end) f))) (made (Refused NoRoom 0) b) .bytes) i 0 ≡ getD b i 0
       by-fit f false e h = refl
       by-fit f true e h =
           let room = leb-true (r .end + length f) (length b) (both-true (leb (r .end + length f) (length b)) (leb (r .end + length f) mostBytes) e .0) in
@@ -131,10 +131,10 @@ module _ (i : ℕ) (o : Other i) where
       by-play : (x : Ran) (s t : State) → 128 ≤ r .end → getD (ended r b x s t .bytes) i 0 ≡ getD b i 0
       by-play (Stopped e at) s t h = refl
       by-play (To last next) s t h =
-          pick-holds (λ (c : Closing). getD (c .bytes) i 0 ≡ getD b i 0) (leb (r .end) next) _ _ (by-fit (houseFrame (r .width) (r .height) s t) (fits (r .end) (houseFrame (r .width) (r .height) s t) b) refl h) refl
+          cond-holds (λ (c : Closing). getD (c .bytes) i 0 ≡ getD b i 0) (leb (r .end) next) _ _ (by-fit (houseFrame (r .width) (r .height) s t) (fits (r .end) (houseFrame (r .width) (r .height) s t) b) refl h) refl
 
       by-record : (t : Bool) → endOk (r .end) (length b) ≡ t
-          → getD (pick t (endedBy r b (playAll true (r .frames - 1) (r .width) (r .height) (take (r .end) b))) (closing (Refused Cut 0) b (blank (r .width * r .height)) (blank (r .width * r .height))) .bytes) i 0 ≡ getD b i 0
+          → getD (cond t (endedBy r b (playAll true (r .frames - 1) (r .width) (r .height) (take (r .end) b))) (closing (Refused Cut 0) b (blank (r .width * r .height)) (blank (r .width * r .height))) .bytes) i 0 ≡ getD b i 0
       by-record false e = refl
       by-record true e =
           let x = playAll true (r .frames - 1) (r .width) (r .height) (take (r .end) b) in

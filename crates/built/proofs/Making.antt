@@ -2,14 +2,14 @@
 -- An add puts one more such frame at the record's end, a refused one nothing.
 use mathlib.Core.Path.{_≡_, refl, sym, ap, ap₂, _∙_, subst}
 use mathlib.Core.List.{List, [], _∷_, _++_, append-assoc}
-use mathlib.Core.Bool.{Bool, true, false, _&&_}
+use mathlib.Core.Bool.{Bool, true, false, _&&_, cond}
 use Prim.Native.Nat.{ℕ, _+_, _-_, _*_, _≤_}
 use native.Mathlib.Omega.{arith}
 use borrow.Author.Tests.{ltb-true}
 use lib.Dec.{leb, ltb}
 use lib.ListN.{length, drop, length-append}
 use lib.Seq.{length-take-le}
-use Rattle.words.specs.Words.{pick, Bytes}
+use Rattle.words.specs.Words.{Bytes}
 use Rattle.words.specs.Writes.{put}
 use Rattle.words.proofs.Laws.{put-front, bytes-take}
 use Rattle.words.proofs.There.{put-behind}
@@ -35,10 +35,10 @@ use Rattle.built.proofs.Joined.{joined, Each, no-state, each, joined-ad
 
 -- what an accepted call has passed
 
-pick-done : (t : Bool) (x : Output) (e : Refusal) (b c : List ℕ) (r : Reel) → pick t x (made (Refused e 0) b) ≡ made (Done r) c
+cond-done : (t : Bool) (x : Output) (e : Refusal) (b c : List ℕ) (r : Reel) → cond t x (made (Refused e 0) b) ≡ made (Done r) c
     → (t ≡ true) × (x ≡ made (Done r) c)
-pick-done true x e b c r d = (refl, d)
-pick-done false x e b c r d = let f = ap (λ (y : Output). y .said) d in let z : _≡_ {A = ℕ} 0 1 = cc in absurd (omega arith)
+cond-done true x e b c r d = (refl, d)
+cond-done false x e b c r d = let f = ap (λ (y : Output). y .said) d in let z : _≡_ {A = ℕ} 0 1 = cc in absurd (omega arith)
 
 made-reel : (x y : Reel) (c d : List ℕ) → made (Done x) c ≡ made (Done y) d → x ≡ y
 made-reel x y c d e = inside (told-built-injective (Done x) (Done y) (ap (λ (o : Output). o .said) e))
@@ -60,8 +60,8 @@ module _ (w h speed : ℕ) where
   open-holds : (b b′ : List ℕ) (r : Reel) → openReel w h speed b ≡ made (Done r) b′ → Holds b′ r []
   unfolding openReel joined
   open-holds b b′ r e =
-      let f = pick-done (sizeOk w h) _ BadSize b b′ r e in
-      let g = pick-done (leb 128 (length b)) _ NoRoom b b′ r (f .1) in
+      let f = cond-done (sizeOk w h) _ BadSize b b′ r e in
+      let g = cond-done (leb 128 (length b)) _ NoRoom b b′ r (f .1) in
       record {
         size = f .0;
         is = sym (made-reel (reel w h 0 128 false) r _ b′ (g .1));
@@ -84,11 +84,11 @@ module _ (w h speed : ℕ) where
       let end = 128 + length J in
       let r₀ = reel w h k end false in
       let e₀ : addFrame r₀ b p q p′ q′ ≡ made (Done r′) b′ = subst (λ (x : Reel). addFrame x b p q p′ q′ ≡ made (Done r′) b′) (i .is) e in
-      let e₁ = pick-done (ltb k maxFrames) _ WrongTime b b′ r′ e₀ in
-      let e₂ = pick-done (sizeOk w h) _ BadSize b b′ r′ (e₁ .1) in
-      let e₃ = pick-done (enough n p q && enough n p′ q′) _ ShortSlice b b′ r′ (e₂ .1) in
-      let e₄ = pick-done (endOk end (length b)) _ Cut b b′ r′ (e₃ .1) in
-      let e₅ = pick-done (fits end f b) _ NoRoom b b′ r′ (e₄ .1) in
+      let e₁ = cond-done (ltb k maxFrames) _ WrongTime b b′ r′ e₀ in
+      let e₂ = cond-done (sizeOk w h) _ BadSize b b′ r′ (e₁ .1) in
+      let e₃ = cond-done (enough n p q && enough n p′ q′) _ ShortSlice b b′ r′ (e₂ .1) in
+      let e₄ = cond-done (endOk end (length b)) _ Cut b b′ r′ (e₃ .1) in
+      let e₅ = cond-done (fits end f b) _ NoRoom b b′ r′ (e₄ .1) in
       let room = enough-in n p′ q′ (both-true (enough n p q) (enough n p′ q′) (e₃ .0) .1) in
       let more = length-append asked (t ∷ []) in
       let J′ : joined w h (blank n) (asked ++ (t ∷ [])) ≡ J ++ f = joined-add w h (blank n) asked t ∙ ap (λ (s : State). J ++ houseFrame w h s t) (sym from) in

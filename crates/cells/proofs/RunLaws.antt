@@ -1,12 +1,12 @@
 -- Runs of unchanged or changed cells, and the next stretch by two runs.
 use mathlib.Core.Path.{_≡_, refl, sym, ap, _∙_}
 use mathlib.Core.List.{List, [], _∷_}
-use mathlib.Core.Bool.{Bool, true, false, not}
+use mathlib.Core.Bool.{Bool, true, false, not, cond}
 use Prim.Native.Nat.{ℕ, zero, suc, _+_, _-_, _*_, _≤_, _<_}
 use native.Mathlib.Omega.{arith}
 use native.Mathlib.Nat.{add-sub-cancel-left, mul-le-mul-right}
 use lib.ListN.{length, take, drop, drop-of-length-le}
-use Rattle.words.specs.Words.{pick, same}
+use Rattle.words.specs.Words.{same}
 use Rattle.cells.specs.Cells.{Cell, cells, stays, Stretch, behind, stretches, like, run}
 use Rattle.cells.proofs.CellLaws.{length-cells, cell-at}
 
@@ -19,9 +19,9 @@ by-stays {C} c this that = go (stays c) refl
     go true e = this e
     go false e = that e
 
-run-front : (t b : Bool) (c : Cell) (cs : List Cell) → like t (stays c) ≡ b → run t (c ∷ cs) ≡ pick b (suc (run t cs)) 0
+run-front : (t b : Bool) (c : Cell) (cs : List Cell) → like t (stays c) ≡ b → run t (c ∷ cs) ≡ cond b (suc (run t cs)) 0
 unfolding run
-run-front t b c cs e = ap (λ (s : Bool). pick s (suc (run t cs)) 0) e
+run-front t b c cs e = ap (λ (s : Bool). cond s (suc (run t cs)) 0) e
 
 run-nil : (t : Bool) → run t [] ≡ 0
 unfolding run
@@ -147,7 +147,7 @@ module _ (p q : List ℕ) (k n i : ℕ) (t : Bool) where
     pub next-place : at + k ≤ n * k
     next-place = omega (arith, mul-le-mul-right k h, r .place)
 
-    here : (b : Bool) → s ≡ b → run t (drop j (cells k n p q)) ≡ pick b (suc (run t (drop (suc j) (cells k n p q)))) 0
+    here : (b : Bool) → s ≡ b → run t (drop j (cells k n p q)) ≡ cond b (suc (run t (drop (suc j) (cells k n p q)))) 0
     here b f =
         ap (run t) (cell-at k n j p q h)
         ∙ run-front t b (record { old = take k (drop (j * k) p); new = take k (drop (j * k) q) }) (drop (suc j) (cells k n p q))

@@ -2,9 +2,9 @@
 use Prim.Native.Nat.{ℕ, zero, suc, _+_, _*_, _≤_}
 use mathlib.Core.Path.{_≡_}
 use mathlib.Core.List.{List, [], _∷_, flatMap}
-use mathlib.Core.Bool.{Bool, true, false, not}
+use mathlib.Core.Bool.{Bool, true, false, not, cond}
 use lib.ListN.{take, drop}
-use Rattle.words.specs.Words.{pick, same}
+use Rattle.words.specs.Words.{same}
 
 -- some bytes as they were and as they are to be
 pub record Cell : Type 0 where
@@ -53,12 +53,12 @@ stretches (c ∷ cs) = behind (stays c) c (stretches cs)
 
 -- whether a cell that stays, or not, is one that is looked for: unchanged (t) or changed
 abbrev pub like : Bool → Bool → Bool
-like t s = pick t s (not s)
+like t s = cond t s (not s)
 
 -- how many cells at the front are unchanged (t) or changed
 unfoldable pub run : Bool → List Cell → ℕ
 run t [] = 0
-run t (c ∷ cs) = pick (like t (stays c)) (suc (run t cs)) 0
+run t (c ∷ cs) = cond (like t (stays c)) (suc (run t cs)) 0
 
 -- the next stretch of n cells of k bytes, from cell i on: m changed cells after a gap of g, and m is 0 where no stretch is left
 pub record Next (k n : ℕ) (a b : List ℕ) (i g m : ℕ) : Type 0 where

@@ -1,13 +1,13 @@
 -- Laws of closing a reel: the header, the ring, the close's own playing, and the order of the checks.
 use mathlib.Core.Path.{_≡_, refl, sym, ap, ap₂, _∙_}
 use mathlib.Core.List.{List, [], _++_}
-use mathlib.Core.Bool.{Bool, true, false}
+use mathlib.Core.Bool.{Bool, true, false, cond}
 use Prim.Native.Nat.{ℕ, _+_, _-_, _*_, _≤_, _<_}
 use native.Mathlib.Omega.{arith}
 use borrow.Author.Tests.{le-leb, lt-leb, leb-true}
 use lib.Dec.{leb}
 use lib.ListN.{length, take, drop}
-use Rattle.words.specs.Words.{pick, u32At, le16, le32}
+use Rattle.words.specs.Words.{u32At, le16, le32}
 use Rattle.words.specs.Writes.{put}
 use Rattle.answer.specs.Answer.{Said, State, blank, sizeOk, maxFrames, state}
 use Rattle.answer.proofs.Laws.{both-true}
@@ -47,7 +47,7 @@ second-is b x e = ap (λ (n : ℕ). 128 + n) e
 module _ (r : Reel) (f b x : List ℕ) where
   abbrev by-room : Bool → Output
   by-room t =
-      pick t
+      cond t
       (made (Done (reel (r .width) (r .height) (r .frames) (r .end + length f) true)) (closedHeader (r .end + length f) (r .frames) (secondAt b) (put b (r .end) f)))
       (made (Refused NoRoom 0) b)
 
@@ -98,7 +98,7 @@ module _ (r : Reel) (b : List ℕ) where
 
     module _ (last next : ℕ) (q : x ≡ To last next) where
       abbrev by-end : Bool → Closing
-      by-end c = pick c (outcomeWith (ringWritten r (houseFrame (r .width) (r .height) s t) b) s t) (closing (Refused Cut 0) b s t)
+      by-end c = cond c (outcomeWith (ringWritten r (houseFrame (r .width) (r .height) s t) b) s t) (closing (Refused Cut 0) b s t)
 
       pub frames-early : next < r .end → closing (Refused Cut 0) b s t ≡ closeFrames r b
       frames-early h = sym (frames-played (To last next) q ∙ ap by-end (lt-leb (r .end) next h))

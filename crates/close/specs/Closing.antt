@@ -1,10 +1,10 @@
 -- Closing a reel: the answer, and what the lent bytes and both working pairs hold afterwards.
 use Prim.Native.Nat.{ℕ, _+_, _*_, _-_}
 use mathlib.Core.List.{List, [], _++_}
-use mathlib.Core.Bool.{Bool, true, false, _&&_}
+use mathlib.Core.Bool.{Bool, true, false, _&&_, cond}
 use lib.Dec.{leb}
 use lib.ListN.{length, take, drop}
-use Rattle.words.specs.Words.{pick, u32At, le16, le32}
+use Rattle.words.specs.Words.{u32At, le16, le32}
 use Rattle.words.specs.Writes.{put}
 use Rattle.answer.specs.Answer.{Said, State, blank, sizeOk, maxFrames}
 use Rattle.answer.specs.declared.Refusal.the-variants.{ShortSlice, BadSize, NoRoom, Cut, WrongTime}
@@ -42,7 +42,7 @@ closedHeader size frames second b =
 -- the ring f put at the record's end and the header closed, or refusal 3
 abbrev pub ringWritten : Reel → List ℕ → List ℕ → Output
 ringWritten r f b =
-    pick (fits (r .end) f b)
+    cond (fits (r .end) f b)
     (made (Done (reel (r .width) (r .height) (r .frames) (r .end + length f) true)) (closedHeader (r .end + length f) (r .frames) (secondAt b) (put b (r .end) f)))
     (made (Refused NoRoom 0) b)
 
@@ -63,7 +63,7 @@ outcomeWith o s t = record { said = o .said; bytes = o .bytes; last = s; one = t
 abbrev pub ended : Reel → List ℕ → Ran → State → State → Closing
 ended r b (Stopped e place) s t = closing (Refused e place) b s t
 ended r b (To last next) s t =
-    pick (leb (r .end) next) (outcomeWith (ringWritten r (houseFrame (r .width) (r .height) s t) b) s t) (closing (Refused Cut 0) b s t)
+    cond (leb (r .end) next) (outcomeWith (ringWritten r (houseFrame (r .width) (r .height) s t) b) s t) (closing (Refused Cut 0) b s t)
 
 abbrev pub endedBy : Reel → List ℕ → Shown → Closing
 endedBy r b x = ended r b (x .result) (x .last) (x .one)
@@ -73,7 +73,7 @@ endedBy r b x = ended r b (x .result) (x .last) (x .one)
 unfoldable pub closeFrames : Reel → List ℕ → Closing
 unfolding closedHeader secondAt houseFrame playAll
 closeFrames r b =
-    pick (endOk (r .end) (length b))
+    cond (endOk (r .end) (length b))
     (endedBy r b (playAll true (r .frames - 1) (r .width) (r .height) (take (r .end) b)))
     (closing (Refused Cut 0) b (blank (r .width * r .height)) (blank (r .width * r .height)))
 
@@ -103,15 +103,15 @@ laid n c p q p′ q′ =
 
 -- refusal 18: "closing with none or over 4,000, or closing twice"
 abbrev pub closeOk : ℕ → Bool → Bool
-closeOk frames closed = pick closed false (leb 1 frames && leb frames maxFrames)
+closeOk frames closed = cond closed false (leb 1 frames && leb frames maxFrames)
 
 -- "Writing: 18, 2, 1, 3", the record and its frames between 1 and 3
 unfoldable pub closeReel : Reel → List ℕ → List ℕ → List ℕ → List ℕ → List ℕ → Closed
 unfolding closeFrames
 closeReel r b p q p′ q′ =
-    pick (closeOk (r .frames) (r .closed))
-    (pick (sizeOk (r .width) (r .height))
-    (pick (enough (r .width * r .height) p q && enough (r .width * r .height) p′ q′)
+    cond (closeOk (r .frames) (r .closed))
+    (cond (sizeOk (r .width) (r .height))
+    (cond (enough (r .width * r .height) p q && enough (r .width * r .height) p′ q′)
     (laid (r .width * r .height) (closeFrames r b) p q p′ q′)
     (closed (Refused ShortSlice 0) b p q p′ q′))
     (closed (Refused BadSize 0) b p q p′ q′))

@@ -1,7 +1,7 @@
 -- Laws of the definitions in specs/ that the proofs of the readers cite.
 use mathlib.Core.Path.{_≡_, ap, _∙_, sym, refl, subst, ap₂}
 use mathlib.Core.List.{List, [], _∷_, map}
-use mathlib.Core.Bool.{Bool, true, false, _&&_}
+use mathlib.Core.Bool.{Bool, true, false, _&&_, cond}
 use Prim.Native.Nat.{ℕ, suc, zero, _≤_, _<_, _+_, _-_, _*_}
 use native.Mathlib.Nat.{le-of-suc-le-suc, not-suc-le-zero}
 use native.Mathlib.Numerals.{add-one, sub-one}
@@ -10,7 +10,7 @@ use borrow.Author.Tests.{le-leb, lt-leb, leb-true}
 use lib.ListN.{length, drop, take, getD, length-map, length-drop, drop-of-length-le}
 use lib.Seq.{length-take-le}
 use lib.Dec.{leb}
-use Rattle.words.specs.Words.{pick, u16At}
+use Rattle.words.specs.Words.{u16At}
 use Rattle.words.specs.Writes.{put, written}
 use Rattle.words.proofs.Laws.{Inside, false-not-true}
 use Rattle.answer.proofs.Laws.{VerdictIn}
@@ -28,14 +28,14 @@ count-pos zero h = absurd (h refl)
 count-pos (suc x) h = refl
 
 levels-cons : (six : Bool) (xs : List ℕ) (i : ℕ) → i < length xs
-    → levelsOk six (drop i xs) ≡ (pick six (leb (getD xs i 0) 63) true && levelsOk six (drop (suc i) xs))
+    → levelsOk six (drop i xs) ≡ (cond six (leb (getD xs i 0) 63) true && levelsOk six (drop (suc i) xs))
 unfolding levelsOk
 levels-cons six [] i h = absurd (not-suc-le-zero h)
 levels-cons six (x ∷ xs) zero h = refl
 levels-cons six (x ∷ xs) (suc i) h = levels-cons six xs i (le-of-suc-le-suc h)
 
 pub levels-step : (six : Bool) (xs : List ℕ) (i : ℕ) → i < length xs
-    → levelsOk six (drop i xs) ≡ (pick six (leb (getD xs i 0) 63) true && levelsOk six (drop (i + 1) xs))
+    → levelsOk six (drop i xs) ≡ (cond six (leb (getD xs i 0) 63) true && levelsOk six (drop (i + 1) xs))
 levels-step six xs i h = rw add-one (levels-cons six xs i h)
 
 and-left : (a b : Bool) → (a && b) ≡ true → a ≡ true
@@ -103,7 +103,7 @@ packet-in six b at i p e =
     m = countOf (getD b (at + 1) 0)
 
     go : (a k l v : Bool) → leb (j + m) 256 ≡ k → leb (at + 2 + 3 * m) (length b) ≡ l → levelsOk six (take (3 * m) (drop (at + 2) b)) ≡ v
-        → PacketIn six b (pick a (pick k (pick l (pick v (Colours (at + 2) (3 * j) (3 * m) (j + m)) (Fault OverLevel)) (Fault BodyEnds)) (Fault PastPalette)) (Fault BodyEnds))
+        → PacketIn six b (cond a (cond k (cond l (cond v (Colours (at + 2) (3 * j) (3 * m) (j + m)) (Fault OverLevel)) (Fault BodyEnds)) (Fault PastPalette)) (Fault BodyEnds))
     go false k l v p q r = tt
     go true false l v p q r = tt
     go true true false v p q r = tt
@@ -146,13 +146,13 @@ module _ (six : Bool) (b : List ℕ) where
   unfolding colour
   colours-cut h = simp (lt-leb 2 (length b) h)
 
-pub over-level : (six : Bool) (x : ℕ) (r : Bool) → six ≡ true → 63 < x → (pick six (leb x 63) true && r) ≡ false
+pub over-level : (six : Bool) (x : ℕ) (r : Bool) → six ≡ true → 63 < x → (cond six (leb x 63) true && r) ≡ false
 over-level six x r e h = simp (e, lt-leb x 63 h)
 
-pub within-level : (six : Bool) (x : ℕ) (r : Bool) → six ≡ true → x ≤ 63 → (pick six (leb x 63) true && r) ≡ r
+pub within-level : (six : Bool) (x : ℕ) (r : Bool) → six ≡ true → x ≤ 63 → (cond six (leb x 63) true && r) ≡ r
 within-level six x r e h = simp (e, le-leb x 63 h)
 
-pub any-level : (six : Bool) (x : ℕ) (r : Bool) → six ≡ false → (pick six (leb x 63) true && r) ≡ r
+pub any-level : (six : Bool) (x : ℕ) (r : Bool) → six ≡ false → (cond six (leb x 63) true && r) ≡ r
 any-level six x r e = simp e
 
 pub levels-none : (six : Bool) (xs : List ℕ) (i : ℕ) → length xs ≤ i → levelsOk six (drop i xs) ≡ true
@@ -190,7 +190,7 @@ pub colour-in : (six : Bool) (b : List ℕ) → VerdictIn b (colour six b .verdi
 unfolding colour
 colour-in six b = go (leb 2 (length b)) refl
   where
-    go : (c : Bool) → leb 2 (length b) ≡ c → VerdictIn b (pick c (packets six b (u16At b 0) 2 0) (fault BodyEnds) .verdict)
+    go : (c : Bool) → leb 2 (length b) ≡ c → VerdictIn b (cond c (packets six b (u16At b 0) 2 0) (fault BodyEnds) .verdict)
     go true e = packets-in six b (u16At b 0) 2 0 (leb-true 2 (length b) e)
     go false e = tt
 
@@ -198,6 +198,6 @@ pub colour-inside : (six : Bool) (b : List ℕ) → Inside 768 (colour six b .wr
 unfolding colour
 colour-inside six b = go (leb 2 (length b))
   where
-    go : (c : Bool) → Inside 768 (pick c (packets six b (u16At b 0) 2 0) (fault BodyEnds) .writes)
+    go : (c : Bool) → Inside 768 (cond c (packets six b (u16At b 0) 2 0) (fault BodyEnds) .writes)
     go true = packets-inside six b (u16At b 0) 2 0
     go false = tt

@@ -1,10 +1,10 @@
 -- Kinds 4 and 11, colour (document 01, "Frames, chunks and rows"). six: components are of 6 bits, 64 levels (kind 11).
 use Prim.Native.Nat.{ℕ, zero, suc, _+_, _*_}
 use mathlib.Core.List.{List, [], _∷_, map}
-use mathlib.Core.Bool.{Bool, true, _&&_}
+use mathlib.Core.Bool.{Bool, true, _&&_, cond}
 use lib.ListN.{length, getD, take, drop}
 use lib.Dec.{leb}
-use Rattle.words.specs.Words.{pick, u16At}
+use Rattle.words.specs.Words.{u16At}
 use Rattle.answer.specs.declared.Refusal.the-variants.{BodyEnds, PastPalette, OverLevel}
 use Rattle.answer.specs.Walk.{Walk, ends, fault, andThen}
 use Rattle.colour.specs.declared.Packet.{Packet}
@@ -12,12 +12,12 @@ use Rattle.colour.specs.declared.Packet.the-variants.{Fault, Colours}
 
 -- "Kind 11 stores each component times 4"
 unfoldable pub level : Bool → ℕ → ℕ
-level six x = pick six (x * 4) x
+level six x = cond six (x * 4) x
 
 -- "levels (13, kind 11)": no component over 63
 unfoldable pub levelsOk : Bool → List ℕ → Bool
 levelsOk six [] = true
-levelsOk six (x ∷ xs) = pick six (leb x 63) true && levelsOk six xs
+levelsOk six (x ∷ xs) = cond six (leb x 63) true && levelsOk six xs
 
 -- "count (0 means 256)"
 unfoldable pub countOf : ℕ → ℕ
@@ -29,9 +29,9 @@ module _ (six : Bool) (b : List ℕ) where
   unfoldable pub packetOf : ℕ → ℕ → ℕ → Packet
   unfolding levelsOk
   packetOf at j m =
-      pick (leb (j + m) 256)
-      (pick (leb (at + 2 + 3 * m) (length b))
-      (pick (levelsOk six (take (3 * m) (drop (at + 2) b)))
+      cond (leb (j + m) 256)
+      (cond (leb (at + 2 + 3 * m) (length b))
+      (cond (levelsOk six (take (3 * m) (drop (at + 2) b)))
       (Colours (at + 2) (3 * j) (3 * m) (j + m))
       (Fault OverLevel))
       (Fault BodyEnds))
@@ -40,7 +40,7 @@ module _ (six : Bool) (b : List ℕ) where
   -- the packet at offset at, the index being i: "two bytes there (7)", "skip, count", "The index .. moves by the skip"
   unfoldable pub packetAt : ℕ → ℕ → Packet
   unfolding packetOf countOf
-  packetAt at i = pick (leb (at + 2) (length b)) (packetOf at (i + getD b at 0) (countOf (getD b (at + 1) 0))) (Fault BodyEnds)
+  packetAt at i = cond (leb (at + 2) (length b)) (packetOf at (i + getD b at 0) (countOf (getD b (at + 1) 0))) (Fault BodyEnds)
 
   -- a packet's write, "three bytes a colour", and then the walk k from its end and its next index
   abbrev pub afterPacket : Packet → (ℕ → ℕ → Walk) → Walk
@@ -56,4 +56,4 @@ module _ (six : Bool) (b : List ℕ) where
   -- "Packet count (2)", "The index starts at 0"
   unfoldable pub colour : Walk
   unfolding packets
-  colour = pick (leb 2 (length b)) (packets (u16At b 0) 2 0) (fault BodyEnds)
+  colour = cond (leb 2 (length b)) (packets (u16At b 0) 2 0) (fault BodyEnds)

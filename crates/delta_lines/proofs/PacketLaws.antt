@@ -1,12 +1,11 @@
 -- Laws of packets: the packet of a stretch's pairs by its numbers, and the packets of a stretch one after the other.
 use mathlib.Core.Path.{_≡_, refl, sym, ap, ap₂, _∙_}
 use mathlib.Core.List.{List, [], _∷_, _++_, flatten, flatMap}
-use mathlib.Core.Bool.{Bool, true, false}
+use mathlib.Core.Bool.{Bool, true, false, cond}
 use Prim.Native.Nat.{ℕ, zero, suc, pred, _+_, _-_, _*_, _≤_, min}
 use native.Mathlib.Omega.{arith}
 use lib.ListN.{length, take, drop, getD, length-append, length-drop}
 use lib.Seq.{length-take-le}
-use Rattle.words.specs.Words.{pick}
 use Rattle.cells.proofs.CellLaws.{flatMap-cons}
 use Rattle.delta_lines.specs.Line.{Packet, copy, repeat, packetBytes, bytes, taken, equals, repeats, singles, packet, packed}
 use Rattle.delta_lines.specs.Pairs.{pairAt, pairsAt, PacketAt}
@@ -28,8 +27,8 @@ module _ (k : ℕ) (vs : List (List ℕ)) where
   unfolding packet
   taken-packet = go (repeats vs)
     where
-      go : (t : Bool) → taken (pick t (repeat k (min 127 (equals (getD vs 0 []) vs)) (getD vs 0 [])) (copy k (take (min 127 (singles vs)) vs)))
-          ≡ taken (pick t (repeat 0 (min 127 (equals (getD vs 0 []) vs)) (getD vs 0 [])) (copy 0 (take (min 127 (singles vs)) vs)))
+      go : (t : Bool) → taken (cond t (repeat k (min 127 (equals (getD vs 0 []) vs)) (getD vs 0 [])) (copy k (take (min 127 (singles vs)) vs)))
+          ≡ taken (cond t (repeat 0 (min 127 (equals (getD vs 0 []) vs)) (getD vs 0 [])) (copy 0 (take (min 127 (singles vs)) vs)))
       go true = refl
       go false = refl
 
@@ -38,8 +37,8 @@ module _ (k : ℕ) (vs : List (List ℕ)) where
   unfolding packet packetBytes
   length-packet = go (repeats vs)
     where
-      go : (t : Bool) → length (packetBytes (pick t (repeat k (min 127 (equals (getD vs 0 []) vs)) (getD vs 0 [])) (copy k (take (min 127 (singles vs)) vs))))
-          ≡ length (packetBytes (pick t (repeat 0 (min 127 (equals (getD vs 0 []) vs)) (getD vs 0 [])) (copy 0 (take (min 127 (singles vs)) vs))))
+      go : (t : Bool) → length (packetBytes (cond t (repeat k (min 127 (equals (getD vs 0 []) vs)) (getD vs 0 [])) (copy k (take (min 127 (singles vs)) vs))))
+          ≡ length (packetBytes (cond t (repeat 0 (min 127 (equals (getD vs 0 []) vs)) (getD vs 0 [])) (copy 0 (take (min 127 (singles vs)) vs))))
       go true = refl
       go false = refl
 

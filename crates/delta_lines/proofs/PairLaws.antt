@@ -1,13 +1,13 @@
 -- Laws of pairs: by their place, how many are equal, how many stand before a repeat.
 use mathlib.Core.Path.{_≡_, refl, sym, ap, ap₂, _∙_}
 use mathlib.Core.List.{List, [], _∷_, _++_, map, flatten}
-use mathlib.Core.Bool.{Bool, true, false}
+use mathlib.Core.Bool.{Bool, true, false, cond}
 use Prim.Native.Nat.{ℕ, zero, suc, _+_, _-_, _*_, _≤_, _<_, min}
 use native.Mathlib.Omega.{arith}
 use native.Mathlib.Nat.{add-sub-cancel-left}
 use lib.ListN.{length, take, drop}
 use lib.Seq.{drop-drop, take-add}
-use Rattle.words.specs.Words.{pick, same}
+use Rattle.words.specs.Words.{same}
 use Rattle.words.proofs.Laws.{same-refl}
 use Rattle.cells.specs.Cells.{Cell, cellsAt}
 use Rattle.cells.proofs.CellLaws.{cells-next, cells-none}
@@ -83,9 +83,9 @@ module _ (v : List ℕ) where
   unfolding equals
   equals-none = refl
 
-  equals-front : (u : List ℕ) (us : List (List ℕ)) (t : Bool) → same v u ≡ t → equals v (u ∷ us) ≡ pick t (suc (equals v us)) 0
+  equals-front : (u : List ℕ) (us : List (List ℕ)) (t : Bool) → same v u ≡ t → equals v (u ∷ us) ≡ cond t (suc (equals v us)) 0
   unfolding equals
-  equals-front u us t e = ap (λ (s : Bool). pick s (suc (equals v us)) 0) e
+  equals-front u us t e = ap (λ (s : Bool). cond s (suc (equals v us)) 0) e
 
   pub equals-itself : (us : List (List ℕ)) → equals v (v ∷ us) ≡ suc (equals v us)
   equals-itself us = equals-front v us true (same-refl v)
@@ -120,7 +120,7 @@ module _ (v : List ℕ) where
         record { high = omega arith; so-far = omega (arith, ap (equals v) e) }
 
     module _ (j : ℕ) (r : Equal j) (s : Bool) (h : j < m) (e : s ≡ same v (pairAt b (x + j))) where
-      here : (t : Bool) → s ≡ t → equals v (pairsAt b (x + j) (m - j)) ≡ pick t (suc (equals v (pairsAt b (x + (j + 1)) (m - (j + 1))))) 0
+      here : (t : Bool) → s ≡ t → equals v (pairsAt b (x + j) (m - j)) ≡ cond t (suc (equals v (pairsAt b (x + (j + 1)) (m - (j + 1))))) 0
       here t f = ap (equals v) (next-pair b x m j h) ∙ equals-front (pairAt b (x + j)) (pairsAt b (x + (j + 1)) (m - (j + 1))) t (sym e ∙ f)
 
       pub equal-on : s ≡ true → Equal (j + 1)
@@ -138,9 +138,9 @@ singles-none : singles [] ≡ 0
 unfolding singles
 singles-none = refl
 
-singles-front : (v : List ℕ) (us : List (List ℕ)) (t : Bool) → repeats (v ∷ us) ≡ t → singles (v ∷ us) ≡ pick t 0 (suc (singles us))
+singles-front : (v : List ℕ) (us : List (List ℕ)) (t : Bool) → repeats (v ∷ us) ≡ t → singles (v ∷ us) ≡ cond t 0 (suc (singles us))
 unfolding singles
-singles-front v us t e = ap (λ (s : Bool). pick s 0 (suc (singles us))) e
+singles-front v us t e = ap (λ (s : Bool). cond s 0 (suc (singles us))) e
 
 pub singles-some : (v : List ℕ) (us : List (List ℕ)) → repeats (v ∷ us) ≡ false → 1 ≤ singles (v ∷ us)
 singles-some v us e = omega (arith, singles-front v us false e)
@@ -193,7 +193,7 @@ module _ (b : List ℕ) (x m : ℕ) where
       record { high = omega arith; so-far = omega (arith, ap singles e) }
 
   module _ (j : ℕ) (r : Single j) (s : Bool) (h : j < m) (e : s ≡ repeats (pairsAt b (x + j) (m - j))) where
-    here-single : (t : Bool) → s ≡ t → singles (pairsAt b (x + j) (m - j)) ≡ pick t 0 (suc (singles (pairsAt b (x + (j + 1)) (m - (j + 1)))))
+    here-single : (t : Bool) → s ≡ t → singles (pairsAt b (x + j) (m - j)) ≡ cond t 0 (suc (singles (pairsAt b (x + (j + 1)) (m - (j + 1)))))
     here-single t f =
         ap singles (next-pair b x m j h)
         ∙ singles-front (pairAt b (x + j)) (pairsAt b (x + (j + 1)) (m - (j + 1))) t (ap repeats (sym (next-pair b x m j h)) ∙ sym e ∙ f)

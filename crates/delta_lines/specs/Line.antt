@@ -1,10 +1,10 @@
 -- The line of a row in the house form's delta (document 01, "House form of a frame", Delta).
 use Prim.Native.Nat.{ℕ, zero, suc, pred, _-_, _*_, _/_, _%_, min}
 use mathlib.Core.List.{List, [], _∷_, _++_, map, flatten, flatMap}
-use mathlib.Core.Bool.{Bool, false, not}
+use mathlib.Core.Bool.{Bool, false, not, cond}
 use lib.Dec.{eqb}
 use lib.ListN.{length, take, getD, replicate}
-use Rattle.words.specs.Words.{pick, same, le16}
+use Rattle.words.specs.Words.{same, le16}
 use Rattle.cells.specs.Cells.{Cell, cells, Stretch, stretches}
 
 -- a packet skips k pixels, and then copies pairs, or repeats one pair n times; of a pair it holds the next pixels
@@ -30,7 +30,7 @@ taken (repeat k n v) = n
 -- how many pairs at the front are v
 unfoldable pub equals : List ℕ → List (List ℕ) → ℕ
 equals v [] = 0
-equals v (u ∷ us) = pick (same v u) (suc (equals v us)) 0
+equals v (u ∷ us) = cond (same v u) (suc (equals v us)) 0
 
 -- whether a repeat begins at the front: "two or more equal next pairs in a row"
 unfoldable pub repeats : List (List ℕ) → Bool
@@ -42,13 +42,13 @@ repeats (v ∷ (u ∷ us)) = same v u
 unfoldable pub singles : List (List ℕ) → ℕ
 unfolding repeats
 singles [] = 0
-singles (v ∷ us) = pick (repeats (v ∷ us)) 0 (suc (singles us))
+singles (v ∷ us) = cond (repeats (v ∷ us)) 0 (suc (singles us))
 
 -- the packet after k pixels of the pairs vs, which are left of a stretch and of which getD vs 0 [] is the first: "two or more equal next pairs in a row are one repeat,
 -- as long as can be, at most 127; otherwise pairs are copied up to such a repeat, the stretch's end, or 127"
 unfoldable pub packet : ℕ → List (List ℕ) → Packet
 unfolding repeats equals singles
-packet k vs = pick (repeats vs) (repeat k (min 127 (equals (getD vs 0 []) vs)) (getD vs 0 [])) (copy k (take (min 127 (singles vs)) vs))
+packet k vs = cond (repeats vs) (repeat k (min 127 (equals (getD vs 0 []) vs)) (getD vs 0 [])) (copy k (take (min 127 (singles vs)) vs))
 
 -- the packets of a stretch of pairs after k pixels; the first m pairs lie in the packet before
 unfoldable pub packed : ℕ → ℕ → List (List ℕ) → List Packet
@@ -87,9 +87,9 @@ counted w r = le16 (length (rowPackets w r)) (bytes (rowPackets w r))
 
 -- "An odd width's last column uses the last-pixel word, if changed"
 unfoldable pub lastChanges : ℕ → Cell → Bool
-lastChanges w r = pick (eqb (w % 2) 0) false (not (eqb (getD (r .old) (w - 1) 0) (getD (r .new) (w - 1) 0)))
+lastChanges w r = cond (eqb (w % 2) 0) false (not (eqb (getD (r .old) (w - 1) 0) (getD (r .new) (w - 1) 0)))
 
 -- the line of a row of w pixels: its last-pixel word, if there is one, its packet count and its packets
 unfoldable pub line : ℕ → Cell → List ℕ
 unfolding lastChanges counted
-line w r = pick (lastChanges w r) (getD (r .new) (w - 1) 0 ∷ 128 ∷ counted w r) (counted w r)
+line w r = cond (lastChanges w r) (getD (r .new) (w - 1) 0 ∷ 128 ∷ counted w r) (counted w r)

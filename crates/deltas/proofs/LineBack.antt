@@ -1,7 +1,7 @@
 -- A line reads back: its words say what they were written for, and its packets do to the row what `Turns` says of them.
 use mathlib.Core.Path.{_≡_, refl, sym, ap, ap₂, _∙_}
 use mathlib.Core.List.{List, [], _∷_, _++_, append-assoc, flatten, flatMap}
-use mathlib.Core.Bool.{Bool, true, false, not}
+use mathlib.Core.Bool.{Bool, true, false, not, cond}
 use Prim.Native.Nat.{ℕ, suc, _+_, _-_, _*_, _/_, _%_, _≤_, _<_}
 use native.Mathlib.Omega.{arith}
 use native.Mathlib.Nat.{add-zero}
@@ -9,7 +9,7 @@ use lib.Dec.{eqb}
 use lib.ListN.{length, take, drop, getD, length-append, take-append-drop, drop-of-length-le}
 use lib.Seq.{length-take-le, drop-cons}
 use borrow.Author.Tests.{le-leb, lt-ltb, eqb-true, eqb-false, not-false}
-use Rattle.words.specs.Words.{pick, magnitude, le16, Bytes}
+use Rattle.words.specs.Words.{magnitude, le16, Bytes}
 use Rattle.words.specs.Writes.{put}
 use Rattle.words.proofs.Laws.{magnitude-plus, magnitude-minus, bytes-getD}
 use Rattle.words.proofs.There.{there-drop, there-take, there-byte, there-long, there-word, there-le16, put-at}
@@ -186,7 +186,7 @@ module _ (w : ℕ) (r : Cell) (lo : length (r .old) ≡ w) (ln : length (r .new)
   unfolding lastChanges
   last-odd e z = go (eqb (w % 2) 0) refl e
     where
-      go : (t : Bool) → eqb (w % 2) 0 ≡ t → pick t false (not (eqb (getD (r .old) (w - 1) 0) (getD (r .new) (w - 1) 0))) ≡ true → ⊥
+      go : (t : Bool) → eqb (w % 2) 0 ≡ t → cond t false (not (eqb (getD (r .old) (w - 1) 0) (getD (r .new) (w - 1) 0))) ≡ true → ⊥
       go true f e = let z : _≡_ {A = ℕ} 0 1 = cc in omega arith
       go false f e = eqb-false (w % 2) 0 f z
 
@@ -198,7 +198,7 @@ module _ (w : ℕ) (r : Cell) (lo : length (r .old) ≡ w) (ln : length (r .new)
       none : (l : List ℕ) → length l ≡ w → w % 2 ≡ 0 → drop (w / 2 * 2) l ≡ []
       none l k z = drop-of-length-le l {i = w / 2 * 2} (omega arith)
 
-      go : (t : Bool) → eqb (w % 2) 0 ≡ t → pick t false (not (eqb (getD (r .old) (w - 1) 0) (getD (r .new) (w - 1) 0))) ≡ false
+      go : (t : Bool) → eqb (w % 2) 0 ≡ t → cond t false (not (eqb (getD (r .old) (w - 1) 0) (getD (r .new) (w - 1) 0))) ≡ false
           → drop (w / 2 * 2) (r .old) ≡ drop (w / 2 * 2) (r .new)
       go true f e = none (r .old) lo (eqb-true (w % 2) 0 f) ∙ sym (none (r .new) ln (eqb-true (w % 2) 0 f))
       go false f e =
@@ -209,10 +209,10 @@ module _ (w : ℕ) (r : Cell) (lo : length (r .old) ≡ w) (ln : length (r .new)
 -- the line of a row
 
 line-is : (w : ℕ) (r : Cell) (t : Bool) → lastChanges w r ≡ t
-    → line w r ≡ pick t (getD (r .new) (w - 1) 0 ∷ 128 ∷ le16 (length (rowPackets w r)) (bytes (rowPackets w r))) (le16 (length (rowPackets w r)) (bytes (rowPackets w r)))
+    → line w r ≡ cond t (getD (r .new) (w - 1) 0 ∷ 128 ∷ le16 (length (rowPackets w r)) (bytes (rowPackets w r))) (le16 (length (rowPackets w r)) (bytes (rowPackets w r)))
 unfolding line counted
 line-is w r t e =
-    ap (λ (b : Bool). pick b (getD (r .new) (w - 1) 0 ∷ 128 ∷ le16 (length (rowPackets w r)) (bytes (rowPackets w r))) (le16 (length (rowPackets w r)) (bytes (rowPackets w r)))) e
+    ap (λ (b : Bool). cond b (getD (r .new) (w - 1) 0 ∷ 128 ∷ le16 (length (rowPackets w r)) (bytes (rowPackets w r))) (le16 (length (rowPackets w r)) (bytes (rowPackets w r)))) e
 
 row-turns : (w : ℕ) (r : Cell) → length (r .old) ≡ w → length (r .new) ≡ w
     → Turns (rowPackets w r) (take (w / 2 * 2) (r .old)) (take (w / 2 * 2) (r .new))

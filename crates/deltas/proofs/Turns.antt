@@ -2,12 +2,12 @@
 -- A packet takes the first pairs of a stretch (`First`), the packets of a stretch take them all, and a gap stays as it is.
 use mathlib.Core.Path.{_≡_, refl, sym, ap, ap₂, _∙_, subst}
 use mathlib.Core.List.{List, [], _∷_, _++_, append-assoc, map, flatten, flatMap}
-use mathlib.Core.Bool.{Bool, true, false}
+use mathlib.Core.Bool.{Bool, true, false, cond}
 use Prim.Native.Nat.{ℕ, zero, suc, _+_, _-_, _*_, _≤_, _<_, min}
 use native.Mathlib.Omega.{arith}
 use lib.ListN.{length, take, drop, replicate, length-append, length-drop, length-map, take-append-drop}
 use lib.Seq.{length-take-le, drop-drop}
-use Rattle.words.specs.Words.{pick, same}
+use Rattle.words.specs.Words.{same}
 use Rattle.words.proofs.Laws.{same-eq}
 use Rattle.packets.specs.Packets.{repeated}
 use Rattle.cells.specs.Cells.{Cell, news, Stretch}
@@ -65,7 +65,7 @@ equals-repeated zero v cs h = refl
 equals-repeated (suc n) v [] h = absurd (omega arith)
 equals-repeated (suc n) v (c ∷ cs) h = go (same v (c .new)) refl h (λ i. equals-repeated n v cs i)
   where
-    go : (b : Bool) → same v (c .new) ≡ b → suc n ≤ pick b (suc (equals v (nexts cs))) 0
+    go : (b : Bool) → same v (c .new) ≡ b → suc n ≤ cond b (suc (equals v (nexts cs))) 0
         → (n ≤ equals v (nexts cs) → news (take n cs) ≡ repeated n v) → c .new ++ news (take n cs) ≡ v ++ repeated n v
     go true e h ih = ap₂ (λ (a b : List ℕ). a ++ b) (sym (same-eq v (c .new) e)) (ih (omega arith))
     go false e h ih = absurd (omega arith)

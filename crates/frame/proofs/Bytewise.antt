@@ -6,7 +6,8 @@ use lib.Dec.{eqb}
 use Rattle.words.specs.Words.{Bytes, part}
 use Rattle.words.specs.Writes.{written}
 use Rattle.words.proofs.Laws.{bytes-take, bytes-drop}
-use Rattle.words.proofs.Bytewise.{Bytewise, pick-holds, bytewise-append, bytes-join, bytes-written}
+use Rattle.words.proofs.Bytewise.{Bytewise, bytewise-append, bytes-join, bytes-written}
+use Rattle.words.proofs.Tests.{cond-holds}
 use Rattle.answer.specs.Format.{FLI-COLOR256, FLI-SS2, FLI-COLOR, FLI-LC, FLI-BLACK, FLI-BRUN, FLI-COPY}
 use Rattle.answer.specs.Answer.{sizeOk}
 use Rattle.answer.specs.declared.Answer.{Answer}
@@ -29,13 +30,13 @@ WritesBytes c = Bytewise (c .pixels)
 chunk-bytewise : (w h kind : ℕ) (b : List ℕ) → Bytes b → WritesBytes (subChunk w h kind b)
 unfolding subChunk
 chunk-bytewise w h kind b k =
-    pick-holds WritesBytes (eqb kind FLI-COLOR256) _ _ tt
-    (pick-holds WritesBytes (eqb kind FLI-SS2) _ _ (ss2-bytewise w h b k)
-    (pick-holds WritesBytes (eqb kind FLI-COLOR) _ _ tt
-    (pick-holds WritesBytes (eqb kind FLI-LC) _ _ (lc-bytewise w h b k)
-    (pick-holds WritesBytes (eqb kind FLI-BLACK) _ _ (black-bytewise (w * h))
-    (pick-holds WritesBytes (eqb kind FLI-BRUN) _ _ (brun-bytewise w h b k)
-    (pick-holds WritesBytes (eqb kind FLI-COPY) _ _ (copied-bytewise (w * h) b k) tt))))))
+    cond-holds WritesBytes (eqb kind FLI-COLOR256) _ _ tt
+    (cond-holds WritesBytes (eqb kind FLI-SS2) _ _ (ss2-bytewise w h b k)
+    (cond-holds WritesBytes (eqb kind FLI-COLOR) _ _ tt
+    (cond-holds WritesBytes (eqb kind FLI-LC) _ _ (lc-bytewise w h b k)
+    (cond-holds WritesBytes (eqb kind FLI-BLACK) _ _ (black-bytewise (w * h))
+    (cond-holds WritesBytes (eqb kind FLI-BRUN) _ _ (brun-bytewise w h b k)
+    (cond-holds WritesBytes (eqb kind FLI-COPY) _ _ (copied-bytewise (w * h) b k) tt))))))
 
 chunks-bytewise : (w h : ℕ) (b : List ℕ) (n at : ℕ) → Bytes b → Bytewise (subChunks w h b n at .pixels)
 unfolding subChunks
@@ -61,8 +62,8 @@ frame-bytewise w h b k = go (frameHeader b)
 pub picture-bytes : (b : List ℕ) (w h : ℕ) (p q : List ℕ) → Bytes b → Bytes p → Bytes (readFrame b w h p q .picture)
 unfolding readFrame
 picture-bytes b w h p q i j =
-    pick-holds (λ (o : Outcome). Bytes (o .picture)) (sizeOk w h) _ _
-    (pick-holds (λ (o : Outcome). Bytes (o .picture)) (enough (w * h) p q) _ _ (go (frame w h b .answer)) j) j
+    cond-holds (λ (o : Outcome). Bytes (o .picture)) (sizeOk w h) _ _
+    (cond-holds (λ (o : Outcome). Bytes (o .picture)) (enough (w * h) p q) _ _ (go (frame w h b .answer)) j) j
   where
     go : (a : Answer) → Bytes (settled (w * h) (frame w h b) a p q .picture)
     go Done =

@@ -1,7 +1,7 @@
 -- Laws of the definitions in specs/ that the proofs of the readers cite.
 use mathlib.Core.Path.{_≡_, ap, ap₂, _∙_, sym, refl, subst}
 use mathlib.Core.List.{List}
-use mathlib.Core.Bool.{Bool, true, false}
+use mathlib.Core.Bool.{Bool, true, false, cond}
 use Prim.Native.Nat.{ℕ, suc, zero, _≤_, _<_, _+_, _-_, _*_}
 use native.Mathlib.Nat.{not-suc-le-zero}
 use native.Mathlib.Numerals.{sub-one}
@@ -9,7 +9,7 @@ use native.Mathlib.Omega.{arith}
 use borrow.Author.Tests.{le-leb, lt-leb, eq-eqb, ne-eqb, leb-true, eqb-true}
 use lib.ListN.{length}
 use lib.Dec.{leb, eqb}
-use Rattle.words.specs.Words.{pick, u16At, u32At, part}
+use Rattle.words.specs.Words.{u16At, u32At, part}
 use Rattle.words.specs.Writes.{written}
 use Rattle.words.proofs.Laws.{written-append}
 use Rattle.answer.specs.declared.Refusal.{Refusal}
@@ -60,7 +60,7 @@ header-in b at x e =
     subst (HeaderIn b at) e (go (leb (at + 6) (length b)) (leb 6 (u32At b at)) (leb (at + u32At b at) (length b)) refl refl)
   where
     go : (a s l : Bool) → leb 6 (u32At b at) ≡ s → leb (at + u32At b at) (length b) ≡ l
-        → HeaderIn b at (pick a (pick s (pick l (Chunk (u16At b (at + 4)) (at + u32At b at)) (Fault Cut)) (Fault SmallSize)) (Fault Cut))
+        → HeaderIn b at (cond a (cond s (cond l (Chunk (u16At b (at + 4)) (at + u32At b at)) (Fault Cut)) (Fault SmallSize)) (Fault Cut))
     go false s l p q = tt
     go true false l p q = tt
     go true true false p q = tt
@@ -182,7 +182,7 @@ module _ (b : List ℕ) where
       subst FrameIn e (go (leb 16 (length b)) (eqb (u16At b 4) FRAME-TYPE) (leb 16 (u32At b 0)) (leb (u32At b 0) (length b)) refl refl refl)
     where
       go : (a t s l : Bool) → eqb (u16At b 4) FRAME-TYPE ≡ t → leb 16 (u32At b 0) ≡ s → leb (u32At b 0) (length b) ≡ l
-          → FrameIn (pick a (pick t (pick s (pick l (whole.Frame (u16At b 6) (u32At b 0)) (whole.Fault Cut)) (whole.Fault SmallSize)) (whole.Fault WrongType)) (whole.Fault Cut))
+          → FrameIn (cond a (cond t (cond s (cond l (whole.Frame (u16At b 6) (u32At b 0)) (whole.Fault Cut)) (whole.Fault SmallSize)) (whole.Fault WrongType)) (whole.Fault Cut))
       go false t s l o p q = tt
       go true false s l o p q = tt
       go true true false l o p q = tt

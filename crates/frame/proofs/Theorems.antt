@@ -5,14 +5,14 @@
 -- The idea: a walk's answer is found without a state, its writes lie within the picture and the palette, and it stands only where a chunk begins.
 use mathlib.Core.Path.{_≡_, refl, sym, _∙_, subst}
 use mathlib.Core.List.{List, _++_}
-use mathlib.Core.Bool.{Bool, true, false}
+use mathlib.Core.Bool.{Bool, true, false, cond}
 use Prim.Native.Nat.{ℕ, zero, suc, _≤_, _+_, _*_}
 use native.Mathlib.Omega.{arith}
 use borrow.Author.Tests.{le-leb, leb-true}
 use lib.Dec.{leb, eqb}
 use lib.ListN.{length, take, drop, length-append, length-take, length-drop}
 use lib.Seq.{length-take-le, drop-at}
-use Rattle.words.specs.Words.{pick, part}
+use Rattle.words.specs.Words.{part}
 use Rattle.words.specs.Writes.{Write, written}
 use Rattle.words.proofs.Laws.{Inside, inside-append, length-written}
 use Rattle.answer.specs.Format.{FLI-COLOR256, FLI-SS2, FLI-COLOR, FLI-LC, FLI-BLACK, FLI-BRUN, FLI-COPY}
@@ -52,8 +52,8 @@ module _ (b : List ℕ) (w h : ℕ) (p q p′ q′ : List ℕ) (pn : w * h ≤ l
       (go (sizeOk w h) (frame w h b .answer))
     where
       go : (c : Bool) (a : Answer)
-          → pick c (settled (w * h) (frame w h b) a p q) (outcome (Refused BadSize 0) p q) .said
-          ≡ pick c (settled (w * h) (frame w h b) a p′ q′) (outcome (Refused BadSize 0) p′ q′) .said
+          → cond c (settled (w * h) (frame w h b) a p q) (outcome (Refused BadSize 0) p q) .said
+          ≡ cond c (settled (w * h) (frame w h b) a p′ q′) (outcome (Refused BadSize 0) p′ q′) .said
       go false a = refl
       go true Done = refl
       go true (Refused e at) = refl
@@ -69,13 +69,13 @@ module _ (w h : ℕ) (some : 1 ≤ w) where
   -- the walk that the tests of the kind select
   abbrev picked : List ℕ → Bool → Bool → Bool → Bool → Bool → Bool → Bool → ChunkWalk
   picked b c4 c7 c11 c12 c13 c15 c16 =
-      pick c4 (onPalette (colour false b))
-      (pick c7 (onPicture (ss2 w h b))
-      (pick c11 (onPalette (colour true b))
-      (pick c12 (onPicture (lc w h b))
-      (pick c13 (onPicture (black (w * h)))
-      (pick c15 (onPicture (brun w h b))
-      (pick c16 (onPicture (copied (w * h) b))
+      cond c4 (onPalette (colour false b))
+      (cond c7 (onPicture (ss2 w h b))
+      (cond c11 (onPalette (colour true b))
+      (cond c12 (onPicture (lc w h b))
+      (cond c13 (onPicture (black (w * h)))
+      (cond c15 (onPicture (brun w h b))
+      (cond c16 (onPicture (copied (w * h) b))
       (skipped b)))))))
 
   chunk-within : (kind : ℕ) (b : List ℕ) → Within (w * h) (subChunk w h kind b .pixels) (subChunk w h kind b .colours)
@@ -141,8 +141,8 @@ module _ (b : List ℕ) (w h : ℕ) (p q : List ℕ) where
   kept = go (sizeOk w h) refl (enough (w * h) p q) refl (frame w h b .answer)
     where
       go : (c : Bool) → sizeOk w h ≡ c → (d : Bool) → enough (w * h) p q ≡ d → (a : Answer)
-          → Kept (w * h) p (pick c (pick d (settled (w * h) (frame w h b) a p q) (outcome (Refused ShortSlice 0) p q)) (outcome (Refused BadSize 0) p q) .picture)
-          × Kept 768 q (pick c (pick d (settled (w * h) (frame w h b) a p q) (outcome (Refused ShortSlice 0) p q)) (outcome (Refused BadSize 0) p q) .palette)
+          → Kept (w * h) p (cond c (cond d (settled (w * h) (frame w h b) a p q) (outcome (Refused ShortSlice 0) p q)) (outcome (Refused BadSize 0) p q) .picture)
+          × Kept 768 q (cond c (cond d (settled (w * h) (frame w h b) a p q) (outcome (Refused ShortSlice 0) p q)) (outcome (Refused BadSize 0) p q) .palette)
       go false s d e a = (kept-same (w * h) p, kept-same 768 q)
       go true s false e a = (kept-same (w * h) p, kept-same 768 q)
       go true s true e (Refused r at) = (kept-same (w * h) p, kept-same 768 q)
@@ -208,7 +208,7 @@ module _ (b : List ℕ) (w h : ℕ) (p q : List ℕ) where
       subst (SaidIn b) e (go (sizeOk w h) (enough (w * h) p q) (frame w h b .answer) (frame-place w h b))
     where
       go : (c d : Bool) (a : Answer) → PlaceIn b a
-          → SaidIn b (pick c (pick d (settled (w * h) (frame w h b) a p q) (outcome (Refused ShortSlice 0) p q)) (outcome (Refused BadSize 0) p q) .said)
+          → SaidIn b (cond c (cond d (settled (w * h) (frame w h b) a p q) (outcome (Refused ShortSlice 0) p q)) (outcome (Refused BadSize 0) p q) .said)
       go false d a i = omega arith
       go true false a i = omega arith
       go true true Done i = tt

@@ -1,10 +1,10 @@
 -- A frame (document 01, "Frames, chunks and rows"): its header, and its sub-chunks in file order.
 use Prim.Native.Nat.{ℕ, zero, suc, _+_, _*_}
 use mathlib.Core.List.{List, [], _++_}
-use mathlib.Core.Bool.{true, false}
+use mathlib.Core.Bool.{true, false, cond}
 use lib.ListN.{length, take}
 use lib.Dec.{leb, eqb}
-use Rattle.words.specs.Words.{pick, u16At, u32At, part}
+use Rattle.words.specs.Words.{u16At, u32At, part}
 use Rattle.words.specs.Writes.{Write}
 use Rattle.answer.specs.Format.{FRAME-TYPE, FLI-COLOR256, FLI-SS2, FLI-COLOR, FLI-LC, FLI-BLACK, FLI-BRUN, FLI-COPY}
 use Rattle.answer.specs.declared.Refusal.the-variants.{Cut, WrongType, SmallSize}
@@ -42,13 +42,13 @@ skipped b = record { pixels = []; colours = []; verdict = verdict.Ends (length b
 -- "Reading covers kinds 4, 7, 11, 12, 13, 15 and 16": the sub-chunk of a kind, with body b, in a frame of w by h
 unfoldable pub subChunk : ℕ → ℕ → ℕ → List ℕ → ChunkWalk
 subChunk w h kind b =
-    pick (eqb kind FLI-COLOR256) (onPalette (colour false b))
-    (pick (eqb kind FLI-SS2) (onPicture (ss2 w h b))
-    (pick (eqb kind FLI-COLOR) (onPalette (colour true b))
-    (pick (eqb kind FLI-LC) (onPicture (lc w h b))
-    (pick (eqb kind FLI-BLACK) (onPicture (black (w * h)))
-    (pick (eqb kind FLI-BRUN) (onPicture (brun w h b))
-    (pick (eqb kind FLI-COPY) (onPicture (copied (w * h) b))
+    cond (eqb kind FLI-COLOR256) (onPalette (colour false b))
+    (cond (eqb kind FLI-SS2) (onPicture (ss2 w h b))
+    (cond (eqb kind FLI-COLOR) (onPalette (colour true b))
+    (cond (eqb kind FLI-LC) (onPicture (lc w h b))
+    (cond (eqb kind FLI-BLACK) (onPicture (black (w * h)))
+    (cond (eqb kind FLI-BRUN) (onPicture (brun w h b))
+    (cond (eqb kind FLI-COPY) (onPicture (copied (w * h) b))
     (skipped b)))))))
 
 -- What a frame says: all writes in order, and the answer to it.
@@ -63,9 +63,9 @@ stop a = record { pixels = []; colours = []; answer = a }
 -- the header of the sub-chunk at offset at: "length present (4) .. size too small (6), size too large (4)"
 unfoldable pub headerAt : List ℕ → ℕ → Header
 headerAt b at =
-    pick (leb (at + 6) (length b))
-    (pick (leb 6 (u32At b at))
-    (pick (leb (at + u32At b at) (length b))
+    cond (leb (at + 6) (length b))
+    (cond (leb 6 (u32At b at))
+    (cond (leb (at + u32At b at) (length b))
     (Chunk (u16At b (at + 4)) (at + u32At b at))
     (Fault Cut))
     (Fault SmallSize))
@@ -101,10 +101,10 @@ module _ (w h : ℕ) (b : List ℕ) where
 -- "length present (4), type (5, frames only), size too small (6), size too large (4)"
 unfoldable pub frameHeader : List ℕ → FrameHeader
 frameHeader b =
-    pick (leb 16 (length b))
-    (pick (eqb (u16At b 4) FRAME-TYPE)
-    (pick (leb 16 (u32At b 0))
-    (pick (leb (u32At b 0) (length b))
+    cond (leb 16 (length b))
+    (cond (eqb (u16At b 4) FRAME-TYPE)
+    (cond (leb 16 (u32At b 0))
+    (cond (leb (u32At b 0) (length b))
     (whole.Frame (u16At b 6) (u32At b 0))
     (whole.Fault Cut))
     (whole.Fault SmallSize))

@@ -1,10 +1,9 @@
 -- Reading one frame against a state: the answer, and what the lent slices hold afterwards.
 use Prim.Native.Nat.{ℕ, _*_, _≤_}
 use mathlib.Core.List.{List, _++_}
-use mathlib.Core.Bool.{Bool, _&&_}
+use mathlib.Core.Bool.{Bool, _&&_, cond}
 use lib.ListN.{length, take, drop}
 use lib.Dec.{leb}
-use Rattle.words.specs.Words.{pick}
 use Rattle.words.specs.Writes.{written}
 use Rattle.answer.specs.Answer.{Said, told, State, maxWidth, maxHeight, sizeOk}
 use Rattle.answer.specs.declared.Refusal.the-variants.{ShortSlice, BadSize}
@@ -46,8 +45,8 @@ settled n f (Refused e at) p q = outcome (Refused e at) p q
 unfoldable pub readFrame : List ℕ → ℕ → ℕ → List ℕ → List ℕ → Outcome
 unfolding frame
 readFrame b w h p q =
-    pick (sizeOk w h)
-    (pick (enough (w * h) p q)
+    cond (sizeOk w h)
+    (cond (enough (w * h) p q)
     (settled (w * h) (frame w h b) (frame w h b .answer) p q)
     (outcome (Refused ShortSlice 0) p q))
     (outcome (Refused BadSize 0) p q)

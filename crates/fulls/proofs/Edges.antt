@@ -3,7 +3,7 @@
 -- ends there is at most one; a COPY chunk has more pixels than edges, and a black picture has no edge.
 use mathlib.Core.Path.{_≡_, refl, ap, _∙_, sym}
 use mathlib.Core.List.{List, [], _∷_, _++_}
-use mathlib.Core.Bool.{Bool, true, false}
+use mathlib.Core.Bool.{Bool, true, false, cond}
 use Prim.Native.Nat.{ℕ, zero, suc, _+_, _-_, _≤_, _<_}
 use native.Mathlib.Nat.{zero-add}
 use native.Mathlib.Numerals.{add-one}
@@ -12,7 +12,6 @@ use borrow.Author.Tests.{eq-eqb, ne-eqb, leb-true, leb-false}
 use lib.Dec.{eqb, leb}
 use lib.ListN.{length, getD, take, drop, replicate, length-append, length-drop, take-append-drop}
 use lib.Seq.{drop-cons}
-use Rattle.words.specs.Words.{pick}
 use Rattle.words.proofs.Laws.{same-eq}
 use Rattle.rows.specs.Row.{Encodes, none, repeated, copied}
 use Rattle.rows.proofs.RowRule.{house-encodes}
@@ -27,17 +26,17 @@ unfolding edges
 edges-cons x [] = (omega arith, omega arith)
 edges-cons x (y ∷ s) = go (eqb x y)
   where
-    go : (b : Bool) → (edges (y ∷ s) ≤ pick b 0 1 + edges (y ∷ s)) × (pick b 0 1 + edges (y ∷ s) ≤ 1 + edges (y ∷ s))
+    go : (b : Bool) → (edges (y ∷ s) ≤ cond b 0 1 + edges (y ∷ s)) × (cond b 0 1 + edges (y ∷ s) ≤ 1 + edges (y ∷ s))
     go true = (omega arith, omega arith)
     go false = (omega arith, omega arith)
 
 edges-same : (x y : ℕ) (s : List ℕ) → x ≡ y → edges (x ∷ (y ∷ s)) ≡ edges (y ∷ s)
 unfolding edges
-edges-same x y s e = ap (λ (b : Bool). pick b 0 1 + edges (y ∷ s)) (eq-eqb x y e) ∙ zero-add (edges (y ∷ s))
+edges-same x y s e = ap (λ (b : Bool). cond b 0 1 + edges (y ∷ s)) (eq-eqb x y e) ∙ zero-add (edges (y ∷ s))
 
 edges-other : (x y : ℕ) (s : List ℕ) → (x ≡ y → ⊥) → edges (x ∷ (y ∷ s)) ≡ 1 + edges (y ∷ s)
 unfolding edges
-edges-other x y s h = ap (λ (b : Bool). pick b 0 1 + edges (y ∷ s)) (ne-eqb x y h)
+edges-other x y s h = ap (λ (b : Bool). cond b 0 1 + edges (y ∷ s)) (ne-eqb x y h)
 
 edges-none : edges [] ≡ 0
 unfolding edges

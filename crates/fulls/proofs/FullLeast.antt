@@ -3,14 +3,14 @@
 -- with its ignored byte each row, and so the body (`brun-least`), is no shorter than the house's. The full chunk is the shortest of the house's (`full-shortest`).
 use mathlib.Core.Path.{_≡_, refl, sym, ap, _∙_, subst}
 use mathlib.Core.List.{List, [], _∷_, _++_}
-use mathlib.Core.Bool.{Bool, true, false}
+use mathlib.Core.Bool.{Bool, true, false, cond}
 use Prim.Native.Nat.{ℕ, zero, suc, _+_, _-_, _*_, _≤_}
 use native.Mathlib.Omega.{arith}
 use lib.Dec.{leb, ltb}
 use lib.ListN.{length, take, drop, getD, replicate, length-append, length-take, length-drop, length-replicate}
 use lib.Seq.{length-take-le, take-at, drop-at}
 use borrow.Author.Tests.{leb-true, leb-false, ltb-true, ltb-false}
-use Rattle.words.specs.Words.{pick, magnitude, same, chunk}
+use Rattle.words.specs.Words.{magnitude, same, chunk}
 use Rattle.words.specs.Writes.{put, written}
 use Rattle.words.proofs.Laws.{magnitude-plus, magnitude-minus, length-chunk, same-refl}
 use Rattle.answer.specs.Format.{FLI-BLACK, FLI-BRUN, FLI-COPY}
@@ -93,8 +93,8 @@ module _ (b : List ℕ) where
   unfolding walk.row
   row-least w at end e = by-test (leb (at + 1) (length b)) e
     where
-      by-test : (x : Bool) → pick x (walk.packets b w 0 (at + 1)) (walk.fault BodyEnds) .verdict ≡ verdict.Ends end
-          → at + length (brunRow (pick x (walk.packets b w 0 (at + 1)) (walk.fault BodyEnds) .pixels)) ≤ end
+      by-test : (x : Bool) → cond x (walk.packets b w 0 (at + 1)) (walk.fault BodyEnds) .verdict ≡ verdict.Ends end
+          → at + length (brunRow (cond x (walk.packets b w 0 (at + 1)) (walk.fault BodyEnds) .pixels)) ≤ end
       by-test true e =
           let r = packets-taken w 0 (at + 1) end (omega arith) e in
           let px = walk.packets b w 0 (at + 1) .pixels in
@@ -206,9 +206,9 @@ full-shortest w h q = by-test (allZero q)
     other : List ℕ
     other = shorter brun-chunk copy-chunk
 
-    by-test : (z : Bool) → (length (pick z (shorter (chunk FLI-BLACK []) other) other) ≤ length brun-chunk)
-        × (length (pick z (shorter (chunk FLI-BLACK []) other) other) ≤ length copy-chunk)
-        × (z ≡ true → length (pick z (shorter (chunk FLI-BLACK []) other) other) ≤ length (chunk FLI-BLACK []))
+    by-test : (z : Bool) → (length (cond z (shorter (chunk FLI-BLACK []) other) other) ≤ length brun-chunk)
+        × (length (cond z (shorter (chunk FLI-BLACK []) other) other) ≤ length copy-chunk)
+        × (z ≡ true → length (cond z (shorter (chunk FLI-BLACK []) other) other) ≤ length (chunk FLI-BLACK []))
     by-test true = (
       omega (arith, shorter-right (chunk FLI-BLACK []) other, shorter-left brun-chunk copy-chunk),
       omega (arith, shorter-right (chunk FLI-BLACK []) other, shorter-right brun-chunk copy-chunk),

@@ -4,12 +4,12 @@ use mathlib.Core.List.{List, [], _∷_}
 use Prim.Native.Nat.{ℕ, zero, suc, _+_}
 use lib.Dec.{eqb}
 use lib.ListN.{take, drop}
-use Rattle.words.specs.Words.{pick}
+use mathlib.Core.Bool.{cond}
 
 unfoldable pub edges : List ℕ → ℕ
 edges [] = 0
 edges (x ∷ []) = 0
-edges (x ∷ (y ∷ s)) = pick (eqb x y) 0 1 + edges (y ∷ s)
+edges (x ∷ (y ∷ s)) = cond (eqb x y) 0 1 + edges (y ∷ s)
 
 -- the edges of all h rows of w pixels
 unfoldable pub allEdges : ℕ → ℕ → List ℕ → ℕ

@@ -1,11 +1,11 @@
 -- The full picture chunks of the house form, and which of them is taken: document 01, "House form of a frame", "Full chunks".
 use mathlib.Core.Path.{_≡_}
 use mathlib.Core.List.{List, [], _∷_, _++_}
-use mathlib.Core.Bool.{Bool}
+use mathlib.Core.Bool.{Bool, cond}
 use Prim.Native.Nat.{ℕ, zero, suc, _*_, _≤_, min}
 use lib.Dec.{leb}
 use lib.ListN.{length, take, drop, replicate}
-use Rattle.words.specs.Words.{pick, same, chunk}
+use Rattle.words.specs.Words.{same, chunk}
 use Rattle.answer.specs.Answer.{maxWidth, maxHeight}
 use Rattle.answer.specs.Format.{FLI-BLACK, FLI-BRUN, FLI-COPY}
 use Rattle.rows.specs.Row.{house, houseBytes}
@@ -32,17 +32,17 @@ allZero q = same q (replicate (length q) 0)
 
 -- "shortest ..; ties go to" the first
 unfoldable pub shorter : List ℕ → List ℕ → List ℕ
-shorter a b = pick (leb (length a) (length b)) a b
+shorter a b = cond (leb (length a) (length b)) a b
 
 -- "BLACK if the picture is all 0; COPY; BRUN with each row's packets of least total bytes. .. Shortest full chunk; ties go to BLACK, BRUN, COPY"
 unfoldable pub fullChunk : ℕ → ℕ → List ℕ → List ℕ
 fullChunk w h q =
     let other = shorter (chunk FLI-BRUN (brunBody w h q)) (chunk FLI-COPY q) in
-    pick (allZero q) (shorter (chunk FLI-BLACK []) other) other
+    cond (allZero q) (shorter (chunk FLI-BLACK []) other) other
 
 -- the kind of that chunk, and its body
 unfoldable pub fullKind : ℕ → ℕ → List ℕ → ℕ
-fullKind w h q = pick (allZero q) FLI-BLACK (pick (leb (length (brunBody w h q)) (length q)) FLI-BRUN FLI-COPY)
+fullKind w h q = cond (allZero q) FLI-BLACK (cond (leb (length (brunBody w h q)) (length q)) FLI-BRUN FLI-COPY)
 
 unfoldable pub fullBody : ℕ → ℕ → List ℕ → List ℕ
-fullBody w h q = pick (allZero q) [] (pick (leb (length (brunBody w h q)) (length q)) (brunBody w h q) q)
+fullBody w h q = cond (allZero q) [] (cond (leb (length (brunBody w h q)) (length q)) (brunBody w h q) q)

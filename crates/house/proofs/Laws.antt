@@ -1,7 +1,7 @@
 -- Laws of a frame's plans, of its bytes one part after the other, and of the answer.
 use mathlib.Core.Path.{_≡_, refl, sym, ap, ap₂, _∙_}
 use mathlib.Core.List.{List, [], _∷_, _++_, append-nil, append-assoc, flatten}
-use mathlib.Core.Bool.{Bool, true, false}
+use mathlib.Core.Bool.{Bool, true, false, cond}
 use Prim.Native.Nat.{ℕ, _+_, _*_, _≤_, _<_}
 use native.Mathlib.Nat.{mul-le-mul}
 use native.Mathlib.Omega.{arith}
@@ -9,7 +9,7 @@ use borrow.Author.Tests.{le-leb, lt-leb, lt-ltb, le-ltb, ltb-true}
 use lib.Dec.{ltb}
 use lib.ListN.{length, take, length-append}
 use lib.Seq.{length-take-le}
-use Rattle.words.specs.Words.{pick, chunk, same}
+use Rattle.words.specs.Words.{chunk, same}
 use Rattle.words.specs.Writes.{put}
 use Rattle.words.proofs.Laws.{put-then, length-chunk}
 use Rattle.answer.specs.Answer.{maxWidth, maxHeight, sizeOk, state}
@@ -55,17 +55,17 @@ pub record Counted (subs : List (List ℕ)) (m : ℕ) (r : Plan) : Type 0 where
   pub one : r .chunks ≤ 1
   pub short : r .size ≤ m
 
-plan-counted : (t : Bool) (c : List ℕ) (m k n : ℕ) → length c ≤ m → Counted (pick t [] (c ∷ [])) m (pick t nothing (planned k n c))
+plan-counted : (t : Bool) (c : List ℕ) (m k n : ℕ) → length c ≤ m → Counted (cond t [] (c ∷ [])) m (cond t nothing (planned k n c))
 unfolding flatten
 plan-counted true c m k n l = record { chunks = refl; size = refl; one = omega arith; short = omega arith }
 plan-counted false c m k n l = record { chunks = refl; size = sym (ap length (flatten-one c)); one = omega arith; short = l }
 
-plan-none : (t : Bool) (c : List ℕ) (r x : Plan) → r ≡ pick t nothing x → x .chunks ≡ 1 → r .chunks ≡ 0 → flatten (pick t [] (c ∷ [])) ≡ []
+plan-none : (t : Bool) (c : List ℕ) (r x : Plan) → r ≡ cond t nothing x → x .chunks ≡ 1 → r .chunks ≡ 0 → flatten (cond t [] (c ∷ [])) ≡ []
 unfolding flatten
 plan-none true c r x is k e = refl
 plan-none false c r x is k e = absurd (omega (arith, ap (λ (y : Plan). y .chunks) is))
 
-plan-some : (t : Bool) (c : List ℕ) (r x : Plan) → r ≡ pick t nothing x → (r .chunks ≡ 0 → ⊥) → (r ≡ x) × (flatten (pick t [] (c ∷ [])) ≡ c)
+plan-some : (t : Bool) (c : List ℕ) (r x : Plan) → r ≡ cond t nothing x → (r .chunks ≡ 0 → ⊥) → (r ≡ x) × (flatten (cond t [] (c ∷ [])) ≡ c)
 plan-some true c r x is e = absurd (e (ap (λ (y : Plan). y .chunks) is))
 plan-some false c r x is e = (is, flatten-one c)
 
@@ -138,7 +138,7 @@ module _ (w h : ℕ) (p q : List ℕ) where
 
   -- the plan where there is a change; d: whether the delta is used
   abbrev used : Bool → Plan
-  used d = pick d (planned FLI-SS2 (lineCount w h p q) (deltaChunk w h p q)) (planned (fullKind w h q) 0 (fullChunk w h q))
+  used d = cond d (planned FLI-SS2 (lineCount w h p q) (deltaChunk w h p q)) (planned (fullKind w h q) 0 (fullChunk w h q))
 
   -- whether the delta is strictly shorter than the full chunk
   abbrev shorter : Bool
@@ -174,7 +174,7 @@ module _ (w h : ℕ) (p q : List ℕ) where
   unfolding pictureChunk
   picture-short = by-test shorter refl
     where
-      by-test : (d : Bool) → shorter ≡ d → length (pick d (deltaChunk w h p q) (fullChunk w h q)) ≤ length (fullChunk w h q)
+      by-test : (d : Bool) → shorter ≡ d → length (cond d (deltaChunk w h p q) (fullChunk w h q)) ≤ length (fullChunk w h q)
       by-test true e = omega (arith, ltb-true (length (deltaChunk w h p q)) (length (fullChunk w h q)) e)
       by-test false e = omega arith
 
@@ -185,7 +185,7 @@ module _ (w h : ℕ) (p q : List ℕ) where
       few : w * h ≤ maxWidth * maxHeight
       few = mul-le-mul (s .wide) (s .high)
 
-      by-test : (d : Bool) → shorter ≡ d → Counted (changed p q (pick d (deltaChunk w h p q) (fullChunk w h q))) 64006 (pick (same p q) nothing (used d))
+      by-test : (d : Bool) → shorter ≡ d → Counted (changed p q (cond d (deltaChunk w h p q) (fullChunk w h q))) 64006 (cond (same p q) nothing (used d))
       by-test true e = plan-counted (same p q) (deltaChunk w h p q) 64006 FLI-SS2 (lineCount w h p q)
           (omega (arith, few, full-short, s .next, ltb-true (length (deltaChunk w h p q)) (length (fullChunk w h q)) e))
       by-test false e = plan-counted (same p q) (fullChunk w h q) 64006 (fullKind w h q) 0 (omega (arith, few, full-short, s .next))
@@ -211,7 +211,7 @@ module _ {w h : ℕ} {p q : List ℕ} {r : Plan} (f : PicturePlan w h p q r) whe
     unfolding pictureChunk deltaChunk
     delta-planned k = by-test (shorter w h p q) (some .0) (some .1)
       where
-        by-test : (d : Bool) → r ≡ used w h p q d → flatten (changed p q (pictureChunk w h p q)) ≡ pick d (deltaChunk w h p q) (fullChunk w h q) → Delta w h p q r
+        by-test : (d : Bool) → r ≡ used w h p q d → flatten (changed p q (pictureChunk w h p q)) ≡ cond d (deltaChunk w h p q) (fullChunk w h q) → Delta w h p q r
         by-test true x y = record { count = ap (λ (z : Plan). z .count) x; size = ap (λ (z : Plan). z .size) x ∙ delta-length w h p q; bytes = y }
         by-test false x y = absurd (full-kind w h q (sym (ap (λ (z : Plan). z .kind) x) ∙ k))
 
@@ -219,7 +219,7 @@ module _ {w h : ℕ} {p q : List ℕ} {r : Plan} (f : PicturePlan w h p q r) whe
     unfolding pictureChunk
     full-planned k = by-test (shorter w h p q) (some .0) (some .1)
       where
-        by-test : (d : Bool) → r ≡ used w h p q d → flatten (changed p q (pictureChunk w h p q)) ≡ pick d (deltaChunk w h p q) (fullChunk w h q) → Full w h p q r
+        by-test : (d : Bool) → r ≡ used w h p q d → flatten (changed p q (pictureChunk w h p q)) ≡ cond d (deltaChunk w h p q) (fullChunk w h q) → Full w h p q r
         by-test true x y = absurd (k (ap (λ (z : Plan). z .kind) x))
         by-test false x y = record { kind = ap (λ (z : Plan). z .kind) x; size = ap (λ (z : Plan). z .size) x; bytes = y }
 

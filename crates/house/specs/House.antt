@@ -3,7 +3,8 @@ use Prim.Native.Nat.{ℕ, _+_}
 use mathlib.Core.List.{List, [], _∷_, _++_, flatten}
 use lib.Dec.{ltb}
 use lib.ListN.{length}
-use Rattle.words.specs.Words.{pick, le16, le32, chunk, same}
+use Rattle.words.specs.Words.{le16, le32, chunk, same}
+use mathlib.Core.Bool.{cond}
 use Rattle.answer.specs.Answer.{State}
 use Rattle.answer.specs.Format.{FRAME-TYPE, FLI-COLOR256, FLI-SS2}
 use Rattle.colours.specs.Colours.{colourBody}
@@ -21,11 +22,11 @@ deltaChunk w h p q = chunk FLI-SS2 (deltaBody w h p q)
 -- "The delta is used when strictly shorter than the full chunk"
 unfoldable pub pictureChunk : ℕ → ℕ → List ℕ → List ℕ → List ℕ
 unfolding deltaChunk
-pictureChunk w h p q = pick (ltb (length (deltaChunk w h p q)) (length (fullChunk w h q))) (deltaChunk w h p q) (fullChunk w h q)
+pictureChunk w h p q = cond (ltb (length (deltaChunk w h p q)) (length (fullChunk w h q))) (deltaChunk w h p q) (fullChunk w h q)
 
 -- "none without a change": c, unless p and q are the same
 abbrev pub changed : List ℕ → List ℕ → List ℕ → List (List ℕ)
-changed p q c = pick (same p q) [] (c ∷ [])
+changed p q c = cond (same p q) [] (c ∷ [])
 
 -- "at most two sub-chunks, colour first, none without a change"
 unfoldable pub houseChunks : ℕ → ℕ → State → State → List (List ℕ)

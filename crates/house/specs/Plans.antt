@@ -4,7 +4,8 @@ use mathlib.Core.List.{List, [], _∷_}
 use Prim.Native.Nat.{ℕ, _*_, _≤_}
 use lib.Dec.{ltb}
 use lib.ListN.{length}
-use Rattle.words.specs.Words.{pick, le16, le32, same}
+use Rattle.words.specs.Words.{le16, le32, same}
+use mathlib.Core.Bool.{cond}
 use Rattle.answer.specs.Answer.{maxWidth, maxHeight}
 use Rattle.answer.specs.Format.{FRAME-TYPE, FLI-COLOR256, FLI-SS2}
 use Rattle.colours.specs.Colours.{changes}
@@ -38,14 +39,14 @@ planned kind n b = record { chunks = 1; kind = kind; count = n; size = length b 
 -- the plan of the colour chunk from the palette p to the palette q
 unfoldable pub colourPlan : List ℕ → List ℕ → Plan
 unfolding colourChunk
-colourPlan p q = pick (same p q) nothing (planned FLI-COLOR256 (length (changes p q)) (colourChunk p q))
+colourPlan p q = cond (same p q) nothing (planned FLI-COLOR256 (length (changes p q)) (colourChunk p q))
 
 -- the plan of the picture chunk from the picture p to the picture q
 unfoldable pub picturePlan : ℕ → ℕ → List ℕ → List ℕ → Plan
 unfolding deltaChunk
 picturePlan w h p q =
-    pick (same p q) nothing
-    (pick (ltb (length (deltaChunk w h p q)) (length (fullChunk w h q)))
+    cond (same p q) nothing
+    (cond (ltb (length (deltaChunk w h p q)) (length (fullChunk w h q)))
     (planned FLI-SS2 (lineCount w h p q) (deltaChunk w h p q))
     (planned (fullKind w h q) 0 (fullChunk w h q)))
 

@@ -1,10 +1,9 @@
 -- Writing one frame: the answer, and what the lent output holds afterwards.
 use Prim.Native.Nat.{ℕ, _*_}
 use mathlib.Core.List.{List}
-use mathlib.Core.Bool.{_&&_}
+use mathlib.Core.Bool.{_&&_, cond}
 use lib.Dec.{leb}
 use lib.ListN.{length}
-use Rattle.words.specs.Words.{pick}
 use Rattle.words.specs.Writes.{put}
 use Rattle.answer.specs.Answer.{Said, State, toldWritten, sizeOk}
 use Rattle.answer.specs.declared.Refusal.the-variants.{ShortSlice, BadSize, NoRoom}
@@ -23,14 +22,14 @@ output a out = record { said = toldWritten a; bytes = out }
 
 -- the bytes b at the front of the output and its rest unchanged, or refusal 3: "the output is shorter than the bytes to be written"
 abbrev pub fitted : List ℕ → List ℕ → Output
-fitted b out = pick (leb (length b) (length out)) (output (Done (length b)) (put out 0 b)) (output (Refused NoRoom 0) out)
+fitted b out = cond (leb (length b) (length out)) (output (Done (length b)) (put out 0 b)) (output (Refused NoRoom 0) out)
 
 -- "Writing: .. 2, 1, 3"; p, pp: the previous picture and palette, q, qq: the next
 unfoldable pub writeFrame : ℕ → ℕ → List ℕ → List ℕ → List ℕ → List ℕ → List ℕ → Output
 unfolding houseFrame
 writeFrame w h p pp q qq out =
-    pick (sizeOk w h)
-    (pick (enough (w * h) p pp && enough (w * h) q qq)
+    cond (sizeOk w h)
+    (cond (enough (w * h) p pp && enough (w * h) q qq)
     (fitted (houseFrame w h (front (w * h) p pp) (front (w * h) q qq)) out)
     (output (Refused ShortSlice 0) out))
     (output (Refused BadSize 0) out)

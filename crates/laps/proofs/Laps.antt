@@ -3,13 +3,13 @@
 -- a lap is a function of the state that it begins with, and that is frame 1's each time.
 use mathlib.Core.Path.{_≡_, refl, sym, ap, ap₂, _∙_, subst}
 use mathlib.Core.List.{List, [], _∷_, _++_, append-nil}
-use mathlib.Core.Bool.{Bool, true, false, _&&_}
+use mathlib.Core.Bool.{Bool, true, false, _&&_, cond}
 use Prim.Native.Nat.{ℕ, zero, suc, _+_, _*_, _≤_}
 use native.Mathlib.Omega.{arith}
 use native.Mathlib.Nat.{not-suc-le-zero}
 use lib.ListN.{length, take, drop, drop-of-length-le, length-replicate}
 use lib.Seq.{take-all}
-use Rattle.words.specs.Words.{pick, part, same}
+use Rattle.words.specs.Words.{part, same}
 use Rattle.words.specs.Writes.{Write, written}
 use Rattle.words.proofs.Laws.{same-eq}
 use Rattle.answer.specs.Answer.{done, State, blank, sizeOk, state}
@@ -162,7 +162,7 @@ came (To ring end) s t e =
     let f = both-true (same (s .picture) (t .picture)) (same (s .palette) (t .palette)) (by _ e) in
     record { ring = ring; end = end; to = refl; same = same-states s t (same-eq (s .picture) (t .picture) (f .0)) (same-eq (s .palette) (t .palette) (f .1)) }
   where
-    by : (c : Bool) → pick c Done (Refused BadRing ring) ≡ Done → c ≡ true
+    by : (c : Bool) → cond c Done (Refused BadRing ring) ≡ Done → c ≡ true
     by true e = refl
     by false e = cc
 
@@ -233,8 +233,8 @@ module _ (b p q p′ q′ : List ℕ) where
   accepted-by (head.Fault r) is e = let z : _≡_ {A = ℕ} 0 1 = cc in absurd (omega arith)
   accepted-by (head.Reel w h count size) is e = by (enough (w * h) p q && enough (w * h) p′ q′) e
     where
-      by : (c : Bool) → pick c (checkedBy (w * h) (playAll false count w h (take size b)) p q p′ q′) (checked (Refused ShortSlice 0) p q p′ q′) .said ≡ done []
-          → Accepted (pick c (checkedBy (w * h) (playAll false count w h (take size b)) p q p′ q′) (checked (Refused ShortSlice 0) p q p′ q′))
+      by : (c : Bool) → cond c (checkedBy (w * h) (playAll false count w h (take size b)) p q p′ q′) (checked (Refused ShortSlice 0) p q p′ q′) .said ≡ done []
+          → Accepted (cond c (checkedBy (w * h) (playAll false count w h (take size b)) p q p′ q′) (checked (Refused ShortSlice 0) p q p′ q′))
       by true e =
           let x = playAll false count w h (take size b) in
           let a = told-injective (ringAnswer x) Done e in

@@ -4,7 +4,8 @@ use Prim.Native.Nat.{ℕ, suc, zero, _+_}
 use lib.ListN.{length}
 use lib.Dec.{leb}
 use Rattle.words.specs.Words.{Bytes, u16At}
-use Rattle.words.proofs.Bytewise.{Bytewise, pick-holds}
+use Rattle.words.proofs.Bytewise.{Bytewise}
+use Rattle.words.proofs.Tests.{cond-holds}
 use Rattle.answer.specs.Walk.{Walk}
 use Rattle.answer.proofs.Laws.{onward-bytewise}
 use Rattle.packets.proofs.Bytewise.{packets-bytewise}
@@ -29,5 +30,5 @@ rows-bytewise w b (suc n) row at k =
 pub lc-bytewise : (w h : ℕ) (b : List ℕ) → Bytes b → Bytewise (lc w h b .writes)
 unfolding lc
 lc-bytewise w h b k =
-    pick-holds (λ (x : Walk). Bytewise (x .writes)) (leb 4 (length b)) _ _
-    (pick-holds (λ (x : Walk). Bytewise (x .writes)) (leb (u16At b 0 + u16At b 2) h) _ _ (rows-bytewise w b (u16At b 2) (u16At b 0) 4 k) tt) tt
+    cond-holds (λ (x : Walk). Bytewise (x .writes)) (leb 4 (length b)) _ _
+    (cond-holds (λ (x : Walk). Bytewise (x .writes)) (leb (u16At b 0 + u16At b 2) h) _ _ (rows-bytewise w b (u16At b 2) (u16At b 0) 4 k) tt) tt

@@ -3,7 +3,8 @@ use Prim.Native.Nat.{ℕ, zero, suc, _+_}
 use mathlib.Core.List.{List}
 use lib.ListN.{length, getD}
 use lib.Dec.{leb}
-use Rattle.words.specs.Words.{pick, u16At}
+use Rattle.words.specs.Words.{u16At}
+use mathlib.Core.Bool.{cond}
 use Rattle.answer.specs.declared.Refusal.the-variants.{BodyEnds, PastHeight}
 use Rattle.answer.specs.Walk.{Walk, ends, fault, followed}
 use Rattle.packets.specs.Packets.{packets}
@@ -12,7 +13,7 @@ use Rattle.lc.specs.declared.Start.the-variants.{Fault, Row}
 
 -- "Each row: starting x, packet count", each of one byte; "two bytes (7, also for each .. row start)"
 unfoldable pub startAt : List ℕ → ℕ → Start
-startAt b at = pick (leb (at + 2) (length b)) (Row (getD b at 0) (getD b (at + 1) 0) (at + 2)) (Fault BodyEnds)
+startAt b at = cond (leb (at + 2) (length b)) (Row (getD b at 0) (getD b (at + 1) 0) (at + 2)) (Fault BodyEnds)
 
 module _ (w : ℕ) (b : List ℕ) where
   -- a row's packets, on row row
@@ -35,6 +36,6 @@ module _ (w : ℕ) (b : List ℕ) where
 unfoldable pub lc : ℕ → ℕ → List ℕ → Walk
 unfolding rows
 lc w h b =
-    pick (leb 4 (length b))
-    (pick (leb (u16At b 0 + u16At b 2) h) (rows w b (u16At b 2) (u16At b 0) 4) (fault PastHeight))
+    cond (leb 4 (length b))
+    (cond (leb (u16At b 0 + u16At b 2) h) (rows w b (u16At b 2) (u16At b 0) 4) (fault PastHeight))
     (fault BodyEnds)

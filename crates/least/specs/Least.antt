@@ -4,7 +4,7 @@ use mathlib.Core.List.{List, [], _∷_, List·Memᴰ}
 use Prim.Native.Nat.{ℕ, pred, _+_, _≤_}
 use lib.Dec.{leb}
 use lib.ListN.{getD, drop}
-use Rattle.words.specs.Words.{pick}
+use mathlib.Core.Bool.{cond}
 
 -- a way with its cost
 pub record Best (M : Type 0) : Type 0 where
@@ -17,7 +17,7 @@ done = record { total = 0; path = [] }
 
 -- the first of two unless the second costs less
 unfoldable pub better : {M : Type 0} → Best M → Best M → Best M
-better a b = pick (leb (a .total) (b .total)) a b
+better a b = cond (leb (a .total) (b .total)) a b
 
 module _ {M : Type 0} (cost : M → ℕ) where
   -- what moves cost together

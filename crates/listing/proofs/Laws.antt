@@ -1,7 +1,7 @@
 -- Laws of the listing's definitions by cases, and of text stored piece by piece.
 use mathlib.Core.Path.{_≡_, refl, sym, ap, ap₂, _∙_}
 use mathlib.Core.List.{List, [], _++_}
-use mathlib.Core.Bool.{Bool, true, false}
+use mathlib.Core.Bool.{Bool, true, false, cond}
 use Prim.Native.Nat.{ℕ, zero, suc, _+_, _-_, _≤_, _<_}
 use native.Mathlib.Nat.{not-suc-le-zero}
 use native.Mathlib.Numerals.{add-one, sub-one}
@@ -9,7 +9,6 @@ use native.Mathlib.Omega.{arith}
 use borrow.Author.Tests.{lt-ltb, le-ltb, lt-leb, le-leb}
 use lib.Dec.{leb, eqb}
 use lib.ListN.{length, take, drop}
-use Rattle.words.specs.Words.{pick}
 use Rattle.words.proofs.Laws.{put-front}
 use Rattle.answer.specs.Answer.{number}
 use Rattle.answer.specs.Format.{FLI-PSTAMP}
@@ -53,7 +52,7 @@ module _ (inner : ℕ → ℕ → ℕ → List ℕ) (b : List ℕ) (depth parent
 pub head-bytes-in : (kind : ℕ) → (12 ≤ headBytes kind) × (headBytes kind ≤ 16)
 head-bytes-in kind = by (eqb kind FLI-PSTAMP)
   where
-    by : (t : Bool) → (12 ≤ pick t 12 16) × (pick t 12 16 ≤ 16)
+    by : (t : Bool) → (12 ≤ cond t 12 16) × (cond t 12 16 ≤ 16)
     by true = (omega arith, omega arith)
     by false = (omega arith, omega arith)
 
@@ -120,7 +119,7 @@ module _ (b : List ℕ) where
   module _ (few : length b ≤ 65536) where
     pub listing-head : (x : Head) → headOf b ≡ x → listing b ≡ headLines b x
     unfolding listing
-    listing-head x e = ap (λ (y : Head). pick (leb (length b) LIST-INPUT) (headLines b y) (refusedLine (number NoRoom) 0)) e ∙ simp (le-leb (length b) LIST-INPUT few)
+    listing-head x e = ap (λ (y : Head). cond (leb (length b) LIST-INPUT) (headLines b y) (refusedLine (number NoRoom) 0)) e ∙ simp (le-leb (length b) LIST-INPUT few)
 
     -- m: the length of the part that was walked
     pub listing-walk : (w h frames size : ℕ) → headOf b ≡ head.Reel w h frames size → (m : ℕ) → m ≡ size

@@ -2,14 +2,14 @@
 -- Its own line has at most 20, and its children lie behind its first 12 or 16.
 use mathlib.Core.Path.{_≡_, refl, ap, subst}
 use mathlib.Core.List.{List, [], _++_}
-use mathlib.Core.Bool.{Bool, true, false}
+use mathlib.Core.Bool.{Bool, true, false, cond}
 use Prim.Native.Nat.{ℕ, zero, suc, _+_, _-_, _*_, _≤_, _<_}
 use native.Mathlib.Omega.{arith}
 use borrow.Author.Tests.{ltb-false, leb-true, leb-false}
 use lib.Dec.{leb, ltb}
 use lib.ListN.{length, getD, take, length-append}
 use lib.Seq.{length-take-le, getD-take}
-use Rattle.words.specs.Words.{pick, u16At, u32At, Bytes}
+use Rattle.words.specs.Words.{u16At, u32At, Bytes}
 use Rattle.words.proofs.Laws.{bytes-getD, bytes-take}
 use Rattle.answer.specs.Answer.{number}
 use Rattle.answer.proofs.Laws.{size-in}
@@ -42,7 +42,7 @@ header-kind : (b : List ℕ) (at : ℕ) (x : Header) → headerAt b at ≡ x →
 unfolding headerAt
 header-kind b at x e = subst (KindIn b at) e (by (leb (at + 6) (length b)) (leb 6 (u32At b at)) (leb (at + u32At b at) (length b)))
   where
-    by : (a s l : Bool) → KindIn b at (pick a (pick s (pick l (Chunk (u16At b (at + 4)) (at + u32At b at)) (Fault Cut)) (Fault SmallSize)) (Fault Cut))
+    by : (a s l : Bool) → KindIn b at (cond a (cond s (cond l (Chunk (u16At b (at + 4)) (at + u32At b at)) (Fault Cut)) (Fault SmallSize)) (Fault Cut))
     by false s l = tt
     by true false l = tt
     by true true false = tt
@@ -71,7 +71,7 @@ module _ (b : List ℕ) (bytes : (i : ℕ) → getD b i 0 < 256) (few : length b
   Short inner = (at end kind : ℕ) → at + 6 ≤ end → end ≤ length b → 6 * length (inner at end kind) ≤ 20 * (end - at - 6)
 
   opened-by : (inner : ℕ → ℕ → ℕ → List ℕ) → Short inner → (t : Bool) (depth to at kind end : ℕ) → to ≤ length b → Child depth to at kind end
-      → 6 * length (pick t (inner at end kind) []) ≤ 20 * (end - at - 6)
+      → 6 * length (cond t (inner at end kind) []) ≤ 20 * (end - at - 6)
   unfolding Short
   opened-by inner s true depth to at kind end w i = s at end kind (i .long) (omega arith)
   opened-by inner s false depth to at kind end w i = omega arith
@@ -92,7 +92,7 @@ module _ (b : List ℕ) (bytes : (i : ℕ) → getD b i 0 < 256) (few : length b
       by (Chunk kind end) p again =
           let i = child-in depth to at kind end d w p in
           let line = chunkLine depth at kind (end - at) in
-          let opened = pick (opens kind parent) (inner at end kind) [] in
+          let opened = cond (opens kind parent) (inner at end kind) [] in
           let o = opened-by inner s (opens kind parent) depth to at kind end w i in
           omega (arith, again end (i .within), length-append line (opened ++ rest end), length-append opened (rest end))
 
@@ -104,7 +104,7 @@ module _ (b : List ℕ) (bytes : (i : ℕ) → getD b i 0 < 256) (few : length b
       children : List ℕ
       children = childrenBy (inside levels b (depth + 1)) b (depth + 1) kind end (countAt b at kind) (at + headBytes kind)
 
-      by : (t : Bool) → ltb (end - at) (headBytes kind) ≡ t → Short (inside levels b (depth + 1)) → 6 * length (pick t [] children) ≤ 20 * (end - at - 6)
+      by : (t : Bool) → ltb (end - at) (headBytes kind) ≡ t → Short (inside levels b (depth + 1)) → 6 * length (cond t [] children) ≤ 20 * (end - at - 6)
       by true p s = omega arith
       by false p s =
           let l = ltb-false (end - at) (headBytes kind) p in
@@ -114,7 +114,7 @@ module _ (b : List ℕ) (bytes : (i : ℕ) → getD b i 0 < 256) (few : length b
 
   module _ (depth : ℕ) (shallow : depth ≤ 8) where
     pub opened-short : (t : Bool) (to at kind end : ℕ) → to ≤ length b → Child depth to at kind end
-        → 6 * length (pick t (containerOf b depth at end kind) []) ≤ 20 * (end - at - 6)
+        → 6 * length (cond t (containerOf b depth at end kind) []) ≤ 20 * (end - at - 6)
     opened-short t to at kind end w i = opened-by (inside (8 - depth) b depth) (inside-by (8 - depth) depth (omega arith)) t depth to at kind end w i
 
     pub children-short : (parent to count at : ℕ) → at ≤ to → to ≤ length b → 6 * length (childrenOf b depth parent to count at) ≤ 20 * (to - at)

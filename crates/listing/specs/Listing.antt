@@ -1,10 +1,10 @@
 -- The listing of a reel (document 01, "Reels and the trailer", third paragraph): its text.
 use Prim.Native.Nat.{ℕ, zero, suc, _+_, _-_}
 use mathlib.Core.List.{List, [], _++_}
-use mathlib.Core.Bool.{Bool, not, true}
+use mathlib.Core.Bool.{Bool, not, true, cond}
 use lib.Dec.{leb, ltb, eqb}
 use lib.ListN.{length, take}
-use Rattle.words.specs.Words.{pick, u16At}
+use Rattle.words.specs.Words.{u16At}
 use Rattle.answer.specs.Answer.{number}
 use Rattle.answer.specs.Format.{FRAME-TYPE, PREFIX-TYPE, FLI-PSTAMP}
 use Rattle.answer.specs.declared.Refusal.the-variants.{NoRoom}
@@ -24,21 +24,21 @@ use Rattle.text.specs.Text.{headLine, chunkLine, okLine, refusedLine}
 
 -- "Chunks of kind 61696 and 61946 hold children after 16 bytes, as many as their count; kind 18 holds one after 12"
 abbrev pub headBytes : ℕ → ℕ
-headBytes kind = pick (eqb kind FLI-PSTAMP) 12 16
+headBytes kind = cond (eqb kind FLI-PSTAMP) 12 16
 
 unfoldable pub countAt : List ℕ → ℕ → ℕ → ℕ
-countAt b at kind = pick (eqb kind FLI-PSTAMP) 1 (u16At b (at + 6))
+countAt b at kind = cond (eqb kind FLI-PSTAMP) 1 (u16At b (at + 6))
 
 -- "a child of one of these kinds is opened in its turn .. but an 18 directly inside an 18 is a colour table and stays shut"
 unfoldable pub opens : ℕ → ℕ → Bool
-opens kind parent = pick (eqb kind FLI-PSTAMP) (not (eqb parent FLI-PSTAMP)) (pick (eqb kind PREFIX-TYPE) true (eqb kind FRAME-TYPE))
+opens kind parent = cond (eqb kind FLI-PSTAMP) (not (eqb parent FLI-PSTAMP)) (cond (eqb kind PREFIX-TYPE) true (eqb kind FRAME-TYPE))
 
 -- a child at offset at of b, which ends where its container does, and then the rest: "stops at the first child that doesn't fit (header not whole,
 -- size under 6 or past the container)"; inside: what is listed of a child that is opened
 abbrev pub afterChild : (ℕ → ℕ → ℕ → List ℕ) → ℕ → ℕ → ℕ → Header → (ℕ → List ℕ) → List ℕ
 afterChild inside depth parent at (chunk.Fault e) rest = []
 afterChild inside depth parent at (chunk.Chunk kind end) rest =
-    chunkLine depth at kind (end - at) ++ (pick (opens kind parent) (inside at end kind) [] ++ rest end)
+    chunkLine depth at kind (end - at) ++ (cond (opens kind parent) (inside at end kind) [] ++ rest end)
 
 -- at most count children from offset at on, up to offset to
 unfoldable pub childrenBy : (ℕ → ℕ → ℕ → List ℕ) → List ℕ → ℕ → ℕ → ℕ → ℕ → ℕ → List ℕ
@@ -53,7 +53,7 @@ unfoldable pub inside : ℕ → List ℕ → ℕ → ℕ → ℕ → ℕ → Lis
 unfolding childrenBy countAt
 inside zero b depth at end kind = []
 inside (suc levels) b depth at end kind =
-    pick (ltb (end - at) (headBytes kind)) []
+    cond (ltb (end - at) (headBytes kind)) []
     (childrenBy (inside levels b (depth + 1)) b (depth + 1) kind end (countAt b at kind) (at + headBytes kind))
 
 -- "no line passing depth 8"
@@ -94,7 +94,7 @@ LIST-INPUT = 65536
 
 unfoldable pub listing : List ℕ → List ℕ
 unfolding headLine refusedLine chunkLines headOf topFrames
-listing b = pick (leb (length b) LIST-INPUT) (headLines b (headOf b)) (refusedLine (number NoRoom) 0)
+listing b = cond (leb (length b) LIST-INPUT) (headLines b (headOf b)) (refusedLine (number NoRoom) 0)
 
 -- the text at the front of the output and its rest unchanged, or refusal 3 where the output is shorter than the text
 unfoldable pub list : List ℕ → List ℕ → Output

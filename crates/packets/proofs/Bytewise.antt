@@ -5,7 +5,8 @@ use lib.ListN.{take, drop}
 use lib.Dec.{ltb}
 use Rattle.words.specs.Words.{Bytes}
 use Rattle.words.proofs.Laws.{bytes-take, bytes-drop}
-use Rattle.words.proofs.Bytewise.{Bytewise, pick-holds, bytes-join}
+use Rattle.words.proofs.Bytewise.{Bytewise, bytes-join}
+use Rattle.words.proofs.Tests.{cond-holds}
 use Rattle.packets.specs.Packets.{repeated, pixels, packetAt, afterPacket, packets}
 use Rattle.packets.specs.declared.Packet.{Packet}
 use Rattle.packets.specs.declared.Packet.the-variants.{Fault, Pixels}
@@ -19,7 +20,7 @@ pixels-bytes : (unit : ℕ) (b : List ℕ) (at t : ℕ) → Bytes b → Bytes (p
 unfolding pixels
 pixels-bytes unit b at t h =
     let d = bytes-drop at b h in
-    pick-holds Bytes (ltb t 128) _ _ (bytes-take (unit * t) (drop at b) d) (repeated-bytes (256 - t) (take unit (drop at b)) (bytes-take unit (drop at b) d))
+    cond-holds Bytes (ltb t 128) _ _ (bytes-take (unit * t) (drop at b) d) (repeated-bytes (256 - t) (take unit (drop at b)) (bytes-take unit (drop at b) d))
 
 pub packets-bytewise : (unit w : ℕ) (b : List ℕ) (n row at x : ℕ) → Bytes b → Bytewise (packets unit w b n row at x .writes)
 unfolding packets

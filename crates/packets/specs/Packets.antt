@@ -4,7 +4,8 @@ use Prim.Native.Nat.{ℕ, zero, suc, _+_, _-_, _*_}
 use mathlib.Core.List.{List, [], _++_}
 use lib.ListN.{length, getD, take, drop}
 use lib.Dec.{leb, ltb}
-use Rattle.words.specs.Words.{pick, magnitude}
+use Rattle.words.specs.Words.{magnitude}
+use mathlib.Core.Bool.{cond}
 use Rattle.answer.specs.declared.Refusal.the-variants.{BodyEnds, PastWidth}
 use Rattle.answer.specs.Walk.{Walk, ends, fault, andThen}
 use Rattle.packets.specs.declared.Packet.{Packet}
@@ -18,20 +19,20 @@ repeated (suc n) v = v ++ repeated n v
 module _ (unit : ℕ) where
   -- how many bytes of data follow a type t: "n of 0 or more copies n pixels" (LC), "n pixel pairs" (SS2), "minus n repeats one"
   unfoldable pub dataBytes : ℕ → ℕ
-  dataBytes t = pick (ltb t 128) (unit * t) unit
+  dataBytes t = cond (ltb t 128) (unit * t) unit
 
   -- the pixels of a packet of type t whose data is at offset at
   unfoldable pub pixels : List ℕ → ℕ → ℕ → List ℕ
   unfolding repeated
-  pixels b at t = pick (ltb t 128) (take (unit * t) (drop at b)) (repeated (256 - t) (take unit (drop at b)))
+  pixels b at t = cond (ltb t 128) (take (unit * t) (drop at b)) (repeated (256 - t) (take unit (drop at b)))
 
 module _ (unit w : ℕ) (b : List ℕ) where
   -- a packet of type t at offset at, whose pixels go to column x: "x after skip and pixels (9), data (7)"
   unfoldable pub packetOf : ℕ → ℕ → ℕ → Packet
   unfolding dataBytes
   packetOf at x t =
-      pick (leb (x + unit * magnitude t) w)
-      (pick (leb (at + 2 + dataBytes unit t) (length b))
+      cond (leb (x + unit * magnitude t) w)
+      (cond (leb (at + 2 + dataBytes unit t) (length b))
       (Pixels t x (x + unit * magnitude t) (at + 2 + dataBytes unit t))
       (Fault BodyEnds))
       (Fault PastWidth)
@@ -39,7 +40,7 @@ module _ (unit w : ℕ) (b : List ℕ) where
   -- the packet at offset at, the row being at column x: "two bytes (7)", "skip in pixels, signed type"
   unfoldable pub packetAt : ℕ → ℕ → Packet
   unfolding packetOf
-  packetAt at x = pick (leb (at + 2) (length b)) (packetOf at (x + getD b at 0) (getD b (at + 1) 0)) (Fault BodyEnds)
+  packetAt at x = cond (leb (at + 2) (length b)) (packetOf at (x + getD b at 0) (getD b (at + 1) 0)) (Fault BodyEnds)
 
   -- a packet's write on row row, and then the walk k from its end and the column after it
   abbrev pub afterPacket : ℕ → ℕ → Packet → (ℕ → ℕ → Walk) → Walk

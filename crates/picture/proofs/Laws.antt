@@ -1,13 +1,12 @@
 -- Laws of the definitions in specs/Picture.antt.
 use mathlib.Core.Path.{_≡_, refl}
 use mathlib.Core.List.{List}
-use mathlib.Core.Bool.{Bool, true, false}
+use mathlib.Core.Bool.{Bool, true, false, cond}
 use Prim.Native.Nat.{ℕ, _≤_, _<_}
 use native.Mathlib.Omega.{arith}
 use lib.ListN.{length, take, replicate, length-replicate, length-take}
 use lib.Dec.{leb}
 use borrow.Author.Tests.{le-leb, lt-leb, leb-true}
-use Rattle.words.specs.Words.{pick}
 use Rattle.words.specs.Writes.{put, written}
 use Rattle.words.proofs.Laws.{Inside}
 use Rattle.answer.proofs.Laws.{VerdictIn}
@@ -37,7 +36,7 @@ pub copied-in : (n : ℕ) (b : List ℕ) → VerdictIn b (copied n b .verdict)
 unfolding copied
 copied-in n b = go (leb n (length b)) refl
   where
-    go : (c : Bool) → leb n (length b) ≡ c → VerdictIn b (pick c (andThen 0 (take n b) (ends n)) (fault BodyEnds) .verdict)
+    go : (c : Bool) → leb n (length b) ≡ c → VerdictIn b (cond c (andThen 0 (take n b) (ends n)) (fault BodyEnds) .verdict)
     go true e = leb-true n (length b) e
     go false e = tt
 
@@ -45,6 +44,6 @@ pub copied-inside : (n : ℕ) (b : List ℕ) → Inside n (copied n b .writes)
 unfolding copied
 copied-inside n b = go (leb n (length b))
   where
-    go : (c : Bool) → Inside n (pick c (andThen 0 (take n b) (ends n)) (fault BodyEnds) .writes)
+    go : (c : Bool) → Inside n (cond c (andThen 0 (take n b) (ends n)) (fault BodyEnds) .writes)
     go true = (omega (arith, length-take n b), tt)
     go false = tt

@@ -1,13 +1,13 @@
 -- Laws of playing frames and of the check of a reel, by the cases of their definitions.
 use mathlib.Core.Path.{_≡_, refl, sym, ap, ap₂, _∙_, subst}
 use mathlib.Core.List.{List, _++_}
-use mathlib.Core.Bool.{Bool, true, false, _&&_}
+use mathlib.Core.Bool.{Bool, true, false, _&&_, cond}
 use Prim.Native.Nat.{ℕ, zero, suc, _+_, _-_, _*_, _≤_, _<_}
 use native.Mathlib.Nat.{not-suc-le-zero, le-of-eq}
 use native.Mathlib.Numerals.{sub-one}
 use lib.ListN.{length, take, drop, replicate}
 use lib.Seq.{length-take-le}
-use Rattle.words.specs.Words.{pick, part, same}
+use Rattle.words.specs.Words.{part, same}
 use Rattle.answer.specs.Answer.{State, blank, sizeOk, state}
 use Rattle.answer.specs.declared.Refusal.{Refusal}
 use Rattle.answer.specs.declared.Refusal.the-variants.{ShortSlice, BadRing}
@@ -147,9 +147,9 @@ ring-stopped x e place q = ap (λ (r : Ran). ringed r (x .last) (x .one)) q
 
 -- r: the result of comparing the states, found to be k
 pub ring-compared : (x : Shown) (ring next : ℕ) → x .result ≡ To ring next → (r k : Bool)
-    → r ≡ (same (x .last .picture) (x .one .picture) && same (x .last .palette) (x .one .palette)) → r ≡ k → ringAnswer x ≡ pick k Done (Refused BadRing ring)
+    → r ≡ (same (x .last .picture) (x .one .picture) && same (x .last .palette) (x .one .palette)) → r ≡ k → ringAnswer x ≡ cond k Done (Refused BadRing ring)
 ring-compared x ring next q r k e f =
-    ap (λ (z : Ran). ringed z (x .last) (x .one)) q ∙ ap (λ (t : Bool). pick t Done (Refused BadRing ring)) (sym e ∙ f)
+    ap (λ (z : Ran). ringed z (x .last) (x .one)) q ∙ ap (λ (t : Bool). cond t Done (Refused BadRing ring)) (sym e ∙ f)
 
 -- what the check of frames tells where they came to x: its answer and both states
 pub ring-told : (x y : Shown) → x ≡ y → (a : Answer) → ringAnswer x ≡ a → (a ≡ ringAnswer y) × ((x .last ≡ y .last) × (x .one ≡ y .one))

@@ -1,9 +1,9 @@
 -- The check of a whole reel: the answer, and what both working pairs hold afterwards.
 use Prim.Native.Nat.{ℕ, _*_}
 use mathlib.Core.List.{List, _++_}
-use mathlib.Core.Bool.{false, _&&_}
+use mathlib.Core.Bool.{false, _&&_, cond}
 use lib.ListN.{take, drop}
-use Rattle.words.specs.Words.{pick, same}
+use Rattle.words.specs.Words.{same}
 use Rattle.answer.specs.Answer.{Said, State, told}
 use Rattle.answer.specs.declared.Refusal.the-variants.{ShortSlice, BadRing}
 use Rattle.answer.specs.declared.Answer.{Answer}
@@ -35,7 +35,7 @@ laid n a s t p q p′ q′ =
 -- "the ring comparison last": s, the state after the ring, is t, that after frame 1, else 16, which "gives the ring's offset"
 abbrev pub ringed : Ran → State → State → Answer
 ringed (Stopped e place) s t = Refused e place
-ringed (To ring next) s t = pick (same (s .picture) (t .picture) && same (s .palette) (t .palette)) Done (Refused BadRing ring)
+ringed (To ring next) s t = cond (same (s .picture) (t .picture) && same (s .palette) (t .palette)) Done (Refused BadRing ring)
 
 abbrev pub ringAnswer : Shown → Answer
 ringAnswer x = ringed (x .result) (x .last) (x .one)
@@ -49,7 +49,7 @@ checkedBy n x p q p′ q′ = laid n (ringAnswer x) (x .last) (x .one) p q p′ 
 abbrev pub afterHead : List ℕ → Head → List ℕ → List ℕ → List ℕ → List ℕ → Checked
 afterHead b (Fault e) p q p′ q′ = checked (Refused e 0) p q p′ q′
 afterHead b (Reel w h count size) p q p′ q′ =
-    pick (enough (w * h) p q && enough (w * h) p′ q′)
+    cond (enough (w * h) p q && enough (w * h) p′ q′)
     (checkedBy (w * h) (playAll false count w h (take size b)) p q p′ q′)
     (checked (Refused ShortSlice 0) p q p′ q′)
 

@@ -4,14 +4,14 @@
 -- and rewriting it finds t again. Its picture chunk is no longer than the full chunk, and that than any single BLACK, BRUN or COPY chunk that gives t's picture.
 use mathlib.Core.Path.{_≡_, refl, sym, ap, ap₂, _∙_, subst}
 use mathlib.Core.List.{List, [], _∷_, _++_, flatten, append-nil}
-use mathlib.Core.Bool.{Bool, true, false}
+use mathlib.Core.Bool.{Bool, true, false, cond}
 use Prim.Native.Nat.{ℕ, _+_, _*_, _≤_, _<_}
 use native.Mathlib.Omega.{arith}
 use lib.Dec.{leb}
 use lib.ListN.{length, take, drop, length-append, length-drop}
 use lib.Seq.{length-take-le, take-at}
 use borrow.Author.Tests.{le-leb, ne-eqb}
-use Rattle.words.specs.Words.{pick, u32At, chunk, same, Bytes}
+use Rattle.words.specs.Words.{u32At, chunk, same, Bytes}
 use Rattle.words.specs.Writes.{Write, put, written}
 use Rattle.words.proofs.Laws.{put-front, same-eq, length-chunk, bytes-take}
 use Rattle.words.proofs.Bytewise.{bytes-written}
@@ -59,7 +59,7 @@ unfolding readFrame
 taken b w h p q e = go (sizeOk w h) refl (enough (w * h) p q) refl (frame w h b .answer) refl e
   where
     go : (c : Bool) → sizeOk w h ≡ c → (d : Bool) → enough (w * h) p q ≡ d → (a : Answer) → frame w h b .answer ≡ a
-        → pick c (pick d (settled (w * h) (frame w h b) a p q) (outcome (Refused ShortSlice 0) p q)) (outcome (Refused BadSize 0) p q) .said ≡ done []
+        → cond c (cond d (settled (w * h) (frame w h b) a p q) (outcome (Refused ShortSlice 0) p q)) (outcome (Refused BadSize 0) p q) .said ≡ done []
         → Taken b w h p q
     go false s d r a f e = refused-not-done e
     go true s false r a f e = refused-not-done e
@@ -134,7 +134,7 @@ record Wrote (o : Rewritten) (house : List ℕ) : Type 0 where
   pub bytes : bytesWritten o ≡ house
 
 abbrev tested : Bool → List ℕ → List ℕ → Output
-tested c b out = pick c (output (wrote.Done (length b)) (put out 0 b)) (output (wrote.Refused NoRoom 0) out)
+tested c b out = cond c (output (wrote.Done (length b)) (put out 0 b)) (output (wrote.Refused NoRoom 0) out)
 
 fitted-done : (b out : List ℕ) → (fitted b out .said ≡ refused 3 0 → ⊥)
     → (fitted b out .said ≡ done (length b ∷ [])) × (writtenOf (fitted b out .said) (fitted b out .bytes) ≡ b)
@@ -151,15 +151,15 @@ module _ (w h : ℕ) (p q : List ℕ) (b wp wq out : List ℕ) (t : Taken b w h 
   house = houseFrame w h (was w h p q) (gives w h p q b)
 
   rewrite-as : rewriteFrame b w h p q wp wq out
-      ≡ pick (enough (w * h) wp wq) (rewrote w h (was w h p q) (gives w h p q b) wp wq out) (untouched ShortSlice 0 wp wq out)
+      ≡ cond (enough (w * h) wp wq) (rewrote w h (was w h p q) (gives w h p q b) wp wq out) (untouched ShortSlice 0 wp wq out)
   unfolding rewriteFrame
   rewrite-as = rw (t .size, t .room, t .answer)
 
   rewrite-wrote : RoomEnough (rewriteFrame b w h p q wp wq out) → Wrote (rewriteFrame b w h p q wp wq out) house
   rewrite-wrote room = subst (λ (o : Rewritten). Wrote o house) (sym rewrite-as) (go (enough (w * h) wp wq) (subst RoomEnough rewrite-as room))
     where
-      go : (c : Bool) → RoomEnough (pick c (rewrote w h (was w h p q) (gives w h p q b) wp wq out) (untouched ShortSlice 0 wp wq out))
-          → Wrote (pick c (rewrote w h (was w h p q) (gives w h p q b) wp wq out) (untouched ShortSlice 0 wp wq out)) house
+      go : (c : Bool) → RoomEnough (cond c (rewrote w h (was w h p q) (gives w h p q b) wp wq out) (untouched ShortSlice 0 wp wq out))
+          → Wrote (cond c (rewrote w h (was w h p q) (gives w h p q b) wp wq out) (untouched ShortSlice 0 wp wq out)) house
       go false room = absurd (room .no-short-slice 0 refl)
       go true room = let f = fitted-done house out (room .no-short-output 0) in record { said = f .0; bytes = f .1 }
 
@@ -167,7 +167,7 @@ module _ (w h : ℕ) (p q : List ℕ) (b wp wq out : List ℕ) (t : Taken b w h 
 
 pictured-other : (k : Sub) (ks : List Sub) → (k .kind ≡ FLI-COLOR256 → ⊥) → pictured (k ∷ ks) ≡ k ∷ pictured ks
 unfolding pictured
-pictured-other k ks e = ap (λ (b : Bool). pick b (pictured ks) (k ∷ pictured ks)) (ne-eqb (k .kind) FLI-COLOR256 e)
+pictured-other k ks e = ap (λ (b : Bool). cond b (pictured ks) (k ∷ pictured ks)) (ne-eqb (k .kind) FLI-COLOR256 e)
 
 pictured-colour : (n : ℕ) (ks : List Sub) → pictured (record { kind = FLI-COLOR256; size = n } ∷ ks) ≡ pictured ks
 unfolding pictured
@@ -192,15 +192,15 @@ module _ (w h : ℕ) (s t : State) (ok : sizeOk w h ≡ true) (zs : Sized w h s)
 
   -- the sub-chunks, the colour's if there is one, and their headers
   abbrev colourOr : Bool → List (List ℕ)
-  colourOr c = pick c [] (chunk FLI-COLOR256 (colourBody (s .palette) (t .palette)) ∷ [])
+  colourOr c = cond c [] (chunk FLI-COLOR256 (colourBody (s .palette) (t .palette)) ∷ [])
 
   abbrev colourSub : Bool → List Sub
-  colourSub c = pick c [] (record { kind = FLI-COLOR256; size = 6 + length (colourBody (s .palette) (t .palette)) } ∷ [])
+  colourSub c = cond c [] (record { kind = FLI-COLOR256; size = 6 + length (colourBody (s .palette) (t .palette)) } ∷ [])
 
   house-subs : houseFrame w h s t ≡ framed (colourOr (same (s .palette) (t .palette)) ++ (chunk (chosen .kind) (chosen .body) ∷ []))
   unfolding houseFrame houseChunks colourChunk
   house-subs =
-      ap (λ (c : Bool). framed (colourOr (same (s .palette) (t .palette)) ++ pick c [] (pictureChunk w h (s .picture) (t .picture) ∷ []))) differs
+      ap (λ (c : Bool). framed (colourOr (same (s .palette) (t .palette)) ++ cond c [] (pictureChunk w h (s .picture) (t .picture) ∷ []))) differs
       ∙ ap (λ (x : List ℕ). framed (colourOr (same (s .palette) (t .palette)) ++ (x ∷ []))) (chosen .is)
 
   chosen-small : 6 + length (chosen .body) < 4294967296
@@ -412,7 +412,7 @@ module _ (w h : ℕ) (p q : List ℕ) (bp : Bytes p) where
       let short = house-small w h s g (i .0) (i .1) (i .2) (i .3) (was-sized w h p q b t bp) (gives-sized w h p q b t bp bb) in
       let e : rewriteFrame b w h p q wp wq out .said ≡ done (length (houseFrame w h s g) ∷ []) =
       ap (λ (o : Rewritten). o .said) (rewrite-as w h p q b wp wq out t)
-      ∙ ap (λ (c : Bool). pick c (rewrote w h s g wp wq out) (untouched ShortSlice 0 wp wq out) .said) (enough-is (w * h) wp wq lw lq)
+      ∙ ap (λ (c : Bool). cond c (rewrote w h s g wp wq out) (untouched ShortSlice 0 wp wq out) .said) (enough-is (w * h) wp wq lw lq)
       ∙ ap (λ (c : Bool). tested c (houseFrame w h s g) out .said) (le-leb (length (houseFrame w h s g)) (length out) (omega arith)) in
       record { no-short-slice = λ place f. refused-not-done (sym f ∙ e); no-short-output = λ place f. refused-not-done (sym f ∙ e) }
 

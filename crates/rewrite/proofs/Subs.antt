@@ -1,13 +1,13 @@
 -- The sub-chunks of a frame by their headers: those of a frame that was put together, and the one of a frame that holds a single one.
 use mathlib.Core.Path.{_≡_, refl, sym, ap, _∙_, subst}
 use mathlib.Core.List.{List, [], _∷_, _++_, flatten}
-use mathlib.Core.Bool.{Bool, true, false}
+use mathlib.Core.Bool.{Bool, true, false, cond}
 use Prim.Native.Nat.{ℕ, zero, suc, _+_, _-_, _<_}
 use native.Mathlib.Omega.{arith}
 use lib.Dec.{leb}
 use lib.ListN.{length, take, drop}
 use lib.Seq.{take-all}
-use Rattle.words.specs.Words.{pick, u16At, u32At, part, chunk}
+use Rattle.words.specs.Words.{u16At, u32At, part, chunk}
 use Rattle.words.proofs.Laws.{span-length}
 use Rattle.answer.specs.declared.Refusal.{Refusal}
 use Rattle.answer.specs.declared.Refusal.the-variants.{Cut, SmallSize}
@@ -69,7 +69,7 @@ header-end : (b : List ℕ) (at kind end : ℕ) → headerAt b at ≡ Chunk kind
 unfolding headerAt
 header-end b at kind end e = go (leb (at + 6) (length b)) (leb 6 (u32At b at)) (leb (at + u32At b at) (length b)) e
   where
-    go : (x y z : Bool) → pick x (pick y (pick z (Chunk (u16At b (at + 4)) (at + u32At b at)) (Fault Cut)) (Fault SmallSize)) (Fault Cut) ≡ Chunk kind end
+    go : (x y z : Bool) → cond x (cond y (cond z (Chunk (u16At b (at + 4)) (at + u32At b at)) (Fault Cut)) (Fault SmallSize)) (Fault Cut) ≡ Chunk kind end
         → end ≡ at + u32At b at
     go false y z f = let n : _≡_ {A = ℕ} 0 1 = cc in absurd (omega arith)
     go true false z f = let n : _≡_ {A = ℕ} 0 1 = cc in absurd (omega arith)

@@ -5,7 +5,8 @@ use mathlib.Core.Path.{_≡_}
 use mathlib.Core.List.{List, [], _∷_}
 use lib.Dec.{eqb}
 use lib.ListN.{length, take}
-use Rattle.words.specs.Words.{pick, u32At, Bytes}
+use Rattle.words.specs.Words.{u32At, Bytes}
+use mathlib.Core.Bool.{cond}
 use Rattle.answer.specs.Answer.{Said, done, refused, State}
 use Rattle.answer.specs.Format.{FLI-COLOR256, FLI-BLACK, FLI-BRUN, FLI-COPY}
 use Rattle.frame.specs.Frame.{headerAt, frameHeader}
@@ -57,7 +58,7 @@ subsOf b = afterWhole b (frameHeader b)
 -- "A picture chunk is a sub-chunk not of kind 4"
 unfoldable pub pictured : List Sub → List Sub
 pictured [] = []
-pictured (k ∷ ks) = pick (eqb (k .kind) FLI-COLOR256) (pictured ks) (k ∷ pictured ks)
+pictured (k ∷ ks) = cond (eqb (k .kind) FLI-COLOR256) (pictured ks) (k ∷ pictured ks)
 
 -- BLACK, BRUN or COPY
 pub data FullKind : ℕ → Type 0 where

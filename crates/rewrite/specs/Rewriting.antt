@@ -1,9 +1,8 @@
 -- Rewriting one frame: read against the previous state into the lent working pair, and written in house form from the previous state to the one read.
 use Prim.Native.Nat.{ℕ, _*_}
 use mathlib.Core.List.{List, _++_}
-use mathlib.Core.Bool.{_&&_}
+use mathlib.Core.Bool.{_&&_, cond}
 use lib.ListN.{drop}
-use Rattle.words.specs.Words.{pick}
 use Rattle.answer.specs.Answer.{Said, State, told, toldWritten, sizeOk}
 use Rattle.answer.specs.declared.Refusal.{Refusal}
 use Rattle.answer.specs.declared.Refusal.the-variants.{ShortSlice, BadSize}
@@ -47,8 +46,8 @@ afterRead w h f (Refused e place) s wp wq out = untouched e place wp wq out
 unfoldable pub rewriteFrame : List ℕ → ℕ → ℕ → List ℕ → List ℕ → List ℕ → List ℕ → List ℕ → Rewritten
 unfolding frame houseFrame
 rewriteFrame b w h p q wp wq out =
-    pick (sizeOk w h)
-    (pick (enough (w * h) p q && enough (w * h) wp wq)
+    cond (sizeOk w h)
+    (cond (enough (w * h) p q && enough (w * h) wp wq)
     (afterRead w h (frame w h b) (frame w h b .answer) (front (w * h) p q) wp wq out)
     (untouched ShortSlice 0 wp wq out))
     (untouched BadSize 0 wp wq out)

@@ -3,14 +3,14 @@
 -- and a frame plays as its sub-chunks do.
 use mathlib.Core.Path.{_≡_, refl, sym, ap, subst}
 use mathlib.Core.List.{List, [], _∷_, _++_, flatten}
-use mathlib.Core.Bool.{Bool, true, false}
+use mathlib.Core.Bool.{Bool, true, false, cond}
 use Prim.Native.Nat.{ℕ, _+_, _*_, _≤_, _<_}
 use native.Mathlib.Omega.{arith}
 use native.Mathlib.Nat.{mul-le-mul}
 use lib.Dec.{leb, ltb}
 use lib.ListN.{length}
 use borrow.Author.Tests.{leb-true, ltb-true}
-use Rattle.words.specs.Words.{pick, chunk, same, Bytes}
+use Rattle.words.specs.Words.{chunk, same, Bytes}
 use Rattle.words.specs.Writes.{written}
 use Rattle.words.proofs.Laws.{length-chunk, same-eq}
 use Rattle.answer.specs.Answer.{State, maxWidth, maxHeight}
@@ -118,7 +118,7 @@ module _ (w h : ℕ) (p q : List ℕ) (some : 1 ≤ w) (wide : w ≤ maxWidth) (
   unfolding shorter
   good-shorter x y f g = at (leb (length x) (length y)) refl
     where
-      at : (b : Bool) → leb (length x) (length y) ≡ b → Good w h p q (pick b x y)
+      at : (b : Bool) → leb (length x) (length y) ≡ b → Good w h p q (cond b x y)
       at true e = f (leb-true (length x) (length y) e)
       at false e = g
 
@@ -133,7 +133,7 @@ module _ (w h : ℕ) (p q : List ℕ) (some : 1 ≤ w) (wide : w ≤ maxWidth) (
 
       at : (b : Bool) → allZero q ≡ b
           → Good w h p q
-          (pick b (shorter (chunk FLI-BLACK []) (shorter (chunk FLI-BRUN (brunBody w h q)) (chunk FLI-COPY q)))
+          (cond b (shorter (chunk FLI-BLACK []) (shorter (chunk FLI-BRUN (brunBody w h q)) (chunk FLI-COPY q)))
           (shorter (chunk FLI-BRUN (brunBody w h q)) (chunk FLI-COPY q)))
       at true e = good-shorter (chunk FLI-BLACK []) (shorter (chunk FLI-BRUN (brunBody w h q)) (chunk FLI-COPY q)) (λ l. good-black e) other
       at false e = other
@@ -142,7 +142,7 @@ module _ (w h : ℕ) (p q : List ℕ) (some : 1 ≤ w) (wide : w ≤ maxWidth) (
   unfolding pictureChunk
   good-picture = at (ltb (length (deltaChunk w h p q)) (length (fullChunk w h q))) refl
     where
-      at : (b : Bool) → ltb (length (deltaChunk w h p q)) (length (fullChunk w h q)) ≡ b → Good w h p q (pick b (deltaChunk w h p q) (fullChunk w h q))
+      at : (b : Bool) → ltb (length (deltaChunk w h p q)) (length (fullChunk w h q)) ≡ b → Good w h p q (cond b (deltaChunk w h p q) (fullChunk w h q))
       at true e = good-delta (omega (arith, ltb-true (length (deltaChunk w h p q)) (length (fullChunk w h q)) e, good-full .short))
       at false e = good-full
 
@@ -150,7 +150,7 @@ module _ (w h : ℕ) (p q : List ℕ) (some : 1 ≤ w) (wide : w ≤ maxWidth) (
   picture-gives : (r : List ℕ) → Subs w h (changed p q (pictureChunk w h p q)) p r q r
   picture-gives r = at (same p q) refl
     where
-      at : (b : Bool) → same p q ≡ b → Subs w h (pick b [] (pictureChunk w h p q ∷ [])) p r q r
+      at : (b : Bool) → same p q ≡ b → Subs w h (cond b [] (pictureChunk w h p q ∷ [])) p r q r
       at true e = subst (λ (x : List ℕ). Subs w h [] p r x r) (same-eq p q e) (none {p = p} {q = r})
       at false e =
           let g = good-picture in
@@ -163,7 +163,7 @@ module _ (w h : ℕ) (p q : List ℕ) (some : 1 ≤ w) (wide : w ≤ maxWidth) (
     unfolding colourChunk
     frame-gives = at (same u v) refl
       where
-        at : (b : Bool) → same u v ≡ b → Subs w h (pick b [] (chunk FLI-COLOR256 (colourBody u v) ∷ []) ++ changed p q (pictureChunk w h p q)) p u q v
+        at : (b : Bool) → same u v ≡ b → Subs w h (cond b [] (chunk FLI-COLOR256 (colourBody u v) ∷ []) ++ changed p q (pictureChunk w h p q)) p u q v
         at true e = subst (λ (x : List ℕ). Subs w h (changed p q (pictureChunk w h p q)) p u q x) (same-eq u v e) (picture-gives u)
         at false e =
             sub FLI-COLOR256 (colourBody u v) p v (omega (arith, colour-short u v lu lv))

@@ -2,13 +2,12 @@
 use mathlib.Core.Path.{_≡_, refl, sym, ap, subst}
 use mathlib.Core.List.{List, [], _∷_, _++_, List·Memᴰ, List·Memᴰ·head, List·Memᴰ·tail, List·Memᴰ·not-nil, List·Memᴰ·cases-cons, List·Memᴰ·append-cases, Memᴰ·append-left, Memᴰ·append-right}
 use mathlib.Core.Logic.{⊎-elim}
-use mathlib.Core.Bool.{Bool, true, false}
+use mathlib.Core.Bool.{Bool, true, false, cond}
 use Prim.Native.Nat.{ℕ, zero, suc, _≤_, _<_, min}
 use native.Mathlib.Omega.{arith}
 use lib.Dec.{eqb}
 use lib.ListN.{length, getD, take, replicate, length-append}
 use borrow.Author.Tests.{eqb-true, eq-eqb}
-use Rattle.words.specs.Words.{pick}
 use Rattle.least.proofs.Laws as laws
 use Rattle.least.proofs.Laws.{Sorted}
 use Rattle.rows.specs.Row.{Packet, repeat, copy, span, equal, down, allowed, Before}
@@ -45,7 +44,7 @@ unfolding equal
 equal-le v [] = omega arith
 equal-le v (x ∷ s) = by-test (eqb v x) (equal-le v s)
   where
-    by-test : (b : Bool) → equal v s ≤ length s → pick b (suc (equal v s)) 0 ≤ suc (length s)
+    by-test : (b : Bool) → equal v s ≤ length s → cond b (suc (equal v s)) 0 ≤ suc (length s)
     by-test true h = omega arith
     by-test false h = omega arith
 
@@ -60,7 +59,7 @@ equal-take zero v s h = refl
 equal-take (suc n) v [] h = absurd (omega arith)
 equal-take (suc n) v (x ∷ s) h = by-test (λ k. equal-take n v s k) (eqb v x) refl h
   where
-    by-test : (n ≤ equal v s → take n s ≡ replicate n v) → (b : Bool) → eqb v x ≡ b → suc n ≤ pick b (suc (equal v s)) 0 → x ∷ take n s ≡ v ∷ replicate n v
+    by-test : (n ≤ equal v s → take n s ≡ replicate n v) → (b : Bool) → eqb v x ≡ b → suc n ≤ cond b (suc (equal v s)) 0 → x ∷ take n s ≡ v ∷ replicate n v
     by-test ih true e k =
         let q : v ≡ x = eqb-true v x e in
         let r : take n s ≡ replicate n v = ih (omega arith) in

@@ -3,7 +3,7 @@
 use mathlib.Core.Path.{_≡_, refl, ap, _∙_, subst}
 use mathlib.Core.List.{List, [], _∷_, List·Memᴰ, List·Memᴰ·append-cases, Memᴰ·append-left}
 use mathlib.Core.Logic.{⊎-elim}
-use mathlib.Core.Bool.{Bool, true, false}
+use mathlib.Core.Bool.{Bool, true, false, cond}
 use Prim.Native.Nat.{ℕ, zero, suc, _+_, _-_, _*_, _≤_, _<_, min}
 use native.Mathlib.Nat.{not-suc-le-zero}
 use native.Mathlib.Omega.{arith}
@@ -11,7 +11,6 @@ use lib.Dec.{eqb}
 use lib.ListN.{length, getD, drop, length-drop}
 use lib.Seq.{drop-drop, drop-cons}
 use borrow.Author.Tests.{eqb-true, eq-eqb, ne-eqb}
-use Rattle.words.specs.Words.{pick}
 use Rattle.least.specs.Least.{best, table}
 use Rattle.least.proofs.Laws as laws
 use Rattle.rows.specs.Row.{Packet, repeat, copy, span, size, equal, down, allowed, house, bytes, houseBytes, Before}
@@ -55,7 +54,7 @@ unfolding equal allowed
 repeat-in n v [] l h k = absurd (omega arith)
 repeat-in n v (x ∷ s) l h k = by-case (eqb v x) refl k
   where
-    by-case : (b : Bool) → eqb v x ≡ b → n ≤ pick b (suc (equal v s)) 0 → List·Memᴰ (repeat n) (allowed (x ∷ s))
+    by-case : (b : Bool) → eqb v x ≡ b → n ≤ cond b (suc (equal v s)) 0 → List·Memᴰ (repeat n) (allowed (x ∷ s))
     by-case true e j =
         Memᴰ·append-left (down copy (min 128 (suc (length s))))
         (mem-down repeat (min 127 (suc (equal x s))) n l (omega (arith, ap (λ (y : ℕ). equal y s) (eqb-true v x e))))

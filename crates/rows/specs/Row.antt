@@ -4,7 +4,7 @@ use mathlib.Core.List.{List, [], _∷_, _++_}
 use Prim.Native.Nat.{ℕ, zero, suc, _+_, _-_, _≤_, min}
 use lib.Dec.{eqb}
 use lib.ListN.{length, getD, drop, take, replicate}
-use Rattle.words.specs.Words.{pick}
+use mathlib.Core.Bool.{cond}
 use Rattle.least.specs.Least.{best}
 
 -- "n from 1 to 127 repeats one pixel n times; minus n, to minus 128, copies n pixels"
@@ -38,7 +38,7 @@ Before (copy n) (copy k) = k ≤ n
 -- how many pixels at the front of s are v
 unfoldable pub equal : ℕ → List ℕ → ℕ
 equal v [] = 0
-equal v (x ∷ s) = pick (eqb v x) (suc (equal v s)) 0
+equal v (x ∷ s) = cond (eqb v x) (suc (equal v s)) 0
 
 -- f n, and so on down to f 1
 unfoldable pub down : (ℕ → Packet) → ℕ → List Packet

@@ -4,7 +4,7 @@ use mathlib.Core.List.{List}
 use Prim.Native.Nat.{ℕ, _+_, _-_, _*_, _/_, _≤_, _<_}
 use lib.Dec.{ltb}
 use lib.ListN.{length, getD, drop}
-use Rattle.words.specs.Words.{pick}
+use mathlib.Core.Bool.{cond}
 use Rattle.answer.specs.Answer.{maxWidth}
 use Rattle.rows.specs.Row.{houseBytes}
 
@@ -52,4 +52,4 @@ pub record Window (d : ℕ → ℕ) (w t e near : ℕ) (far : List ℕ) : Type 0
 
 -- how many pixels a packet of type t carries
 unfoldable pub carried : ℕ → ℕ
-carried t = pick (ltb t 128) 1 (256 - t)
+carried t = cond (ltb t 128) 1 (256 - t)

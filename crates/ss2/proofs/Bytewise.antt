@@ -5,7 +5,8 @@ use native.Mathlib.Omega.{arith}
 use lib.ListN.{length}
 use lib.Dec.{leb, ltb}
 use Rattle.words.specs.Words.{Bytes, u16At}
-use Rattle.words.proofs.Bytewise.{Bytewise, pick-holds}
+use Rattle.words.proofs.Bytewise.{Bytewise}
+use Rattle.words.proofs.Tests.{cond-holds}
 use Rattle.answer.specs.Walk.{Walk}
 use Rattle.answer.proofs.Laws.{onward-bytewise}
 use Rattle.packets.proofs.Bytewise.{packets-bytewise}
@@ -46,7 +47,7 @@ word-byte w = go (w / 16384)
 
 last-byte : (b : List ℕ) (at v : ℕ) → v < 256 → LineByte (lastAt b at v)
 unfolding lastAt
-last-byte b at v k = pick-holds LineByte (leb (at + 2) (length b)) _ _ (go (wordOf (u16At b at))) tt
+last-byte b at v k = cond-holds LineByte (leb (at + 2) (length b)) _ _ (go (wordOf (u16At b at))) tt
   where
     go : (u : Word) → LineByte (countAfter (at + 2) v u)
     go (Count n) = k
@@ -56,13 +57,13 @@ last-byte b at v k = pick-holds LineByte (leb (at + 2) (length b)) _ _ (go (word
 
 line-byte : (h : ℕ) (b : List ℕ) (at row : ℕ) → LineByte (lineAt h b at row)
 unfolding lineAt
-line-byte h b at row = pick-holds LineByte (leb (at + 2) (length b)) _ _ (go (wordOf (u16At b at)) (word-byte (u16At b at))) tt
+line-byte h b at row = cond-holds LineByte (leb (at + 2) (length b)) _ _ (go (wordOf (u16At b at)) (word-byte (u16At b at))) tt
   where
     go : (u : Word) → WordByte u → LineByte (lineOf h b (at + 2) row u)
-    go (Count n) k = pick-holds LineByte (ltb row h) _ _ tt tt
+    go (Count n) k = cond-holds LineByte (ltb row h) _ _ tt tt
     go Bad k = tt
-    go (Last v) k = pick-holds LineByte (ltb row h) _ _ (last-byte b (at + 2) v k) tt
-    go (Skip n) k = pick-holds LineByte (ltb (row + n) h) _ _ tt tt
+    go (Last v) k = cond-holds LineByte (ltb row h) _ _ (last-byte b (at + 2) v k) tt
+    go (Skip n) k = cond-holds LineByte (ltb (row + n) h) _ _ tt tt
 
 -- a line, lines, a body
 
@@ -90,4 +91,4 @@ lines-bytewise w h b (suc r) zero (suc n) row at k =
 
 pub ss2-bytewise : (w h : ℕ) (b : List ℕ) → Bytes b → Bytewise (ss2 w h b .writes)
 unfolding ss2
-ss2-bytewise w h b k = pick-holds (λ (x : Walk). Bytewise (x .writes)) (leb 2 (length b)) _ _ (lines-bytewise w h b (suc h) 0 (u16At b 0) 0 2 k) tt
+ss2-bytewise w h b k = cond-holds (λ (x : Walk). Bytewise (x .writes)) (leb 2 (length b)) _ _ (lines-bytewise w h b (suc h) 0 (u16At b 0) 0 2 k) tt

@@ -1,7 +1,7 @@
 -- Laws of kind 7, SS2: what a word says, what a line says and does, what lines and a body come to.
 use mathlib.Core.Path.{_≡_, ap, ap₂, _∙_, sym, refl, subst}
 use mathlib.Core.List.{List}
-use mathlib.Core.Bool.{Bool, true, false}
+use mathlib.Core.Bool.{Bool, true, false, cond}
 use Prim.Native.Nat.{ℕ, suc, zero, _≤_, _<_, _+_, _-_, _*_, _/_}
 use native.Mathlib.Nat.{not-suc-le-zero, le-of-suc-le-suc}
 use native.Mathlib.Numerals.{sub-one}
@@ -9,7 +9,7 @@ use native.Mathlib.Omega.{arith}
 use borrow.Author.Tests.{le-leb, lt-leb, leb-true, leb-false, ltb-true}
 use lib.Dec.{leb, ltb}
 use lib.ListN.{length, set, getD, length-set}
-use Rattle.words.specs.Words.{pick, u16At}
+use Rattle.words.specs.Words.{u16At}
 use Rattle.words.specs.Writes.{written}
 use Rattle.words.proofs.Laws.{Inside, put-one, row-in, written-append}
 use Rattle.answer.specs.declared.Refusal.{Refusal}
@@ -86,10 +86,10 @@ last-in h b at to v row k = go (leb (to + 2) (length b)) refl
         rw (last-there b to v (wordOf (u16At b to)) i refl) (word (wordOf (u16At b to)) i)
 
 -- of a line that stands only where row m lies above the height
-above-in : (h : ℕ) (b : List ℕ) (at row m : ℕ) (l : Line) → (m < h → LineIn h b at row l) → LineIn h b at row (pick (ltb m h) l (Fault PastHeight))
+above-in : (h : ℕ) (b : List ℕ) (at row m : ℕ) (l : Line) → (m < h → LineIn h b at row l) → LineIn h b at row (cond (ltb m h) l (Fault PastHeight))
 above-in h b at row m l f = go (ltb m h) refl
   where
-    go : (c : Bool) → ltb m h ≡ c → LineIn h b at row (pick c l (Fault PastHeight))
+    go : (c : Bool) → ltb m h ≡ c → LineIn h b at row (cond c l (Fault PastHeight))
     go true e = f (ltb-true m h e)
     go false e = tt
 

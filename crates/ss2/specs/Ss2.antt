@@ -3,7 +3,8 @@ use Prim.Native.Nat.{ℕ, zero, suc, _+_, _-_, _*_, _/_, _%_}
 use mathlib.Core.List.{List, [], _∷_}
 use lib.ListN.{length}
 use lib.Dec.{leb, ltb}
-use Rattle.words.specs.Words.{pick, u16At}
+use Rattle.words.specs.Words.{u16At}
+use mathlib.Core.Bool.{cond}
 use Rattle.answer.specs.declared.Refusal.the-variants.{BodyEnds, PastHeight, BadWord}
 use Rattle.answer.specs.Walk.{Walk, ends, fault, andThen, followed}
 use Rattle.packets.specs.Packets.{packets}
@@ -35,21 +36,21 @@ countAfter at v (Skip k) = Fault BadWord
 -- the packet count at offset at, after the last-pixel word of pixel v
 unfoldable pub lastAt : List ℕ → ℕ → ℕ → Line
 unfolding wordOf u16At
-lastAt b at v = pick (leb (at + 2) (length b)) (countAfter (at + 2) v (wordOf (u16At b at))) (Fault BodyEnds)
+lastAt b at v = cond (leb (at + 2) (length b)) (countAfter (at + 2) v (wordOf (u16At b at))) (Fault BodyEnds)
 
 module _ (h : ℕ) (b : List ℕ) where
   -- a word on row row, the next one being at offset at: "A skip that reaches a row at or past the height,
   -- or a last-pixel word or packet count that stands on one, is refusal 10"
   abbrev pub lineOf : ℕ → ℕ → Word → Line
-  lineOf at row (Count n) = pick (ltb row h) (Row Kept n at) (Fault PastHeight)
+  lineOf at row (Count n) = cond (ltb row h) (Row Kept n at) (Fault PastHeight)
   lineOf at row Bad = Fault BadWord
-  lineOf at row (Last v) = pick (ltb row h) (lastAt b at v) (Fault PastHeight)
-  lineOf at row (Skip k) = pick (ltb (row + k) h) (Down k) (Fault PastHeight)
+  lineOf at row (Last v) = cond (ltb row h) (lastAt b at v) (Fault PastHeight)
+  lineOf at row (Skip k) = cond (ltb (row + k) h) (Down k) (Fault PastHeight)
 
   -- the line at offset at: "a word that isn't there is 7, before 11, and 11 before 10"
   unfoldable pub lineAt : ℕ → ℕ → Line
   unfolding lastAt
-  lineAt at row = pick (leb (at + 2) (length b)) (lineOf (at + 2) row (wordOf (u16At b at))) (Fault BodyEnds)
+  lineAt at row = cond (leb (at + 2) (length b)) (lineOf (at + 2) row (wordOf (u16At b at))) (Fault BodyEnds)
 
 module _ (w : ℕ) where
   -- "last pixel (low byte goes to column width - 1, at any width)", and then the walk k: "Packets act after the last-pixel word"
@@ -81,4 +82,4 @@ module _ (w h : ℕ) (b : List ℕ) where
   -- "Line count (2), starting at row 0"; h + 1 rows, as a line may stand on row h, and is refused there
   unfoldable pub ss2 : Walk
   unfolding lines
-  ss2 = pick (leb 2 (length b)) (lines (suc h) 0 (u16At b 0) 0 2) (fault BodyEnds)
+  ss2 = cond (leb 2 (length b)) (lines (suc h) 0 (u16At b 0) 0 2) (fault BodyEnds)

@@ -1,13 +1,12 @@
 -- Laws of numbers in decimal, how long they are, and of text stored piece by piece.
 use mathlib.Core.Path.{_≡_, refl, sym, ap, _∙_, subst}
 use mathlib.Core.List.{List, [], _∷_, _++_, append-assoc}
-use mathlib.Core.Bool.{Bool, true, false}
+use mathlib.Core.Bool.{Bool, true, false, cond}
 use Prim.Native.Nat.{ℕ, zero, suc, _+_, _/_, _≤_, _<_}
 use native.Mathlib.Omega.{arith}
 use borrow.Author.Tests.{lt-ltb, le-ltb, ltb-false}
 use lib.Dec.{ltb}
 use lib.ListN.{length, set, length-append}
-use Rattle.words.specs.Words.{pick}
 use Rattle.words.specs.Writes.{put}
 use Rattle.words.proofs.Laws.{put-one, put-then, length-put}
 use Rattle.text.specs.Text.{SPACE, NEWLINE, digit, digits, decimal, numeral, chunkLine, headLine, okLine, refusedLine}
@@ -19,27 +18,27 @@ use Rattle.text.specs.Stored.{Stored}
 digits-enough : (k m n : ℕ) → n ≤ k → n ≤ m → digits k n ≡ digits m n
 unfolding digits
 digits-enough zero zero n h i = refl
-digits-enough zero (suc m) n h i = sym (ap (λ (t : Bool). pick t (digit n ∷ []) (digits m (n / 10) ++ (digit n ∷ []))) (lt-ltb n 10 (omega arith)))
-digits-enough (suc k) zero n h i = ap (λ (t : Bool). pick t (digit n ∷ []) (digits k (n / 10) ++ (digit n ∷ []))) (lt-ltb n 10 (omega arith))
+digits-enough zero (suc m) n h i = sym (ap (λ (t : Bool). cond t (digit n ∷ []) (digits m (n / 10) ++ (digit n ∷ []))) (lt-ltb n 10 (omega arith)))
+digits-enough (suc k) zero n h i = ap (λ (t : Bool). cond t (digit n ∷ []) (digits k (n / 10) ++ (digit n ∷ []))) (lt-ltb n 10 (omega arith))
 digits-enough (suc k) (suc m) n h i = by (ltb n 10) refl (λ l. digits-enough k m (n / 10) (omega arith) (omega arith))
   where
     by : (t : Bool) → ltb n 10 ≡ t → (10 ≤ n → digits k (n / 10) ≡ digits m (n / 10))
-        → pick t (digit n ∷ []) (digits k (n / 10) ++ (digit n ∷ [])) ≡ pick t (digit n ∷ []) (digits m (n / 10) ++ (digit n ∷ []))
+        → cond t (digit n ∷ []) (digits k (n / 10) ++ (digit n ∷ [])) ≡ cond t (digit n ∷ []) (digits m (n / 10) ++ (digit n ∷ []))
     by true e tenth = refl
     by false e tenth = ap (λ (x : List ℕ). x ++ (digit n ∷ [])) (tenth (ltb-false n 10 e))
 
 module _ (n : ℕ) where
-  decimal-step : decimal n ≡ pick (ltb n 10) (digit n ∷ []) (decimal (n / 10) ++ (digit n ∷ []))
+  decimal-step : decimal n ≡ cond (ltb n 10) (digit n ∷ []) (decimal (n / 10) ++ (digit n ∷ []))
   unfolding decimal digits
   decimal-step =
       digits-enough n (suc n) n (omega arith) (omega arith)
-      ∙ ap (λ (x : List ℕ). pick (ltb n 10) (digit n ∷ []) (x ++ (digit n ∷ []))) (digits-enough n (n / 10) (n / 10) (omega arith) (omega arith))
+      ∙ ap (λ (x : List ℕ). cond (ltb n 10) (digit n ∷ []) (x ++ (digit n ∷ []))) (digits-enough n (n / 10) (n / 10) (omega arith) (omega arith))
 
   pub decimal-small : n < 10 → decimal n ≡ digit n ∷ []
-  decimal-small h = decimal-step ∙ ap (λ (t : Bool). pick t (digit n ∷ []) (decimal (n / 10) ++ (digit n ∷ []))) (lt-ltb n 10 h)
+  decimal-small h = decimal-step ∙ ap (λ (t : Bool). cond t (digit n ∷ []) (decimal (n / 10) ++ (digit n ∷ []))) (lt-ltb n 10 h)
 
   pub decimal-large : 10 ≤ n → decimal n ≡ decimal (n / 10) ++ (digit n ∷ [])
-  decimal-large h = decimal-step ∙ ap (λ (t : Bool). pick t (digit n ∷ []) (decimal (n / 10) ++ (digit n ∷ []))) (le-ltb n 10 h)
+  decimal-large h = decimal-step ∙ ap (λ (t : Bool). cond t (digit n ∷ []) (decimal (n / 10) ++ (digit n ∷ []))) (le-ltb n 10 h)
 
 -- how long
 
@@ -53,7 +52,7 @@ decimal-one n h = ap length (decimal-small n h)
 decimal-more : (n k : ℕ) → length (decimal (n / 10)) ≤ k → length (decimal n) ≤ k + 1
 decimal-more n k h = by (ltb n 10) (decimal-step n)
   where
-    by : (t : Bool) → decimal n ≡ pick t (digit n ∷ []) (decimal (n / 10) ++ (digit n ∷ [])) → length (decimal n) ≤ k + 1
+    by : (t : Bool) → decimal n ≡ cond t (digit n ∷ []) (decimal (n / 10) ++ (digit n ∷ [])) → length (decimal n) ≤ k + 1
     by true e = omega (arith, ap length e)
     by false e = omega (arith, ap length e, length-append (decimal (n / 10)) (digit n ∷ []))
 

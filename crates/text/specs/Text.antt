@@ -2,7 +2,7 @@
 use Prim.Native.Nat.{ℕ, zero, suc, _+_, _/_, _%_}
 use mathlib.Core.List.{List, [], _∷_, _++_}
 use lib.Dec.{ltb}
-use Rattle.words.specs.Words.{pick}
+use mathlib.Core.Bool.{cond}
 
 abbrev pub SPACE : ℕ
 SPACE = 32
@@ -17,7 +17,7 @@ digit n = 48 + n % 10
 -- n in decimal, of at most so many digits and one
 unfoldable pub digits : ℕ → ℕ → List ℕ
 digits zero n = digit n ∷ []
-digits (suc more) n = pick (ltb n 10) (digit n ∷ []) (digits more (n / 10) ++ (digit n ∷ []))
+digits (suc more) n = cond (ltb n 10) (digit n ∷ []) (digits more (n / 10) ++ (digit n ∷ []))
 
 -- n in decimal; it has no more digits than n and one
 unfoldable pub decimal : ℕ → List ℕ

@@ -1,14 +1,14 @@
 -- Lists that begin alike: their words and their file headers are the same.
 use mathlib.Core.Path.{_≡_, refl, sym, ap, ap₂, _∙_, subst}
 use mathlib.Core.List.{List}
-use mathlib.Core.Bool.{Bool, true, false}
+use mathlib.Core.Bool.{Bool, true, false, cond}
 use Prim.Native.Nat.{ℕ, _+_, _*_, _≤_, _<_}
 use native.Mathlib.Omega.{arith}
 use borrow.Author.Tests.{le-leb}
 use lib.Dec.{leb, eqb}
 use lib.ListN.{length, take, getD}
 use lib.Seq.{getD-take}
-use Rattle.words.specs.Words.{pick, u16At, u32At}
+use Rattle.words.specs.Words.{u16At, u32At}
 use Rattle.answer.specs.Answer.{sizeOk}
 use Rattle.answer.specs.Format.{FLC-MAGIC}
 use Rattle.answer.specs.declared.Refusal.the-variants.{Cut, WrongType, SmallSize, BadSize, BadHeader}
@@ -45,7 +45,7 @@ head-word b w h frames size k =
     (go (leb 128 (length b)) (eqb (u16At b 4) FLC-MAGIC) (leb 128 (u32At b 0)) (leb (u32At b 0) (length b)) (sizeOk (u16At b 8) (u16At b 10)) (formOk (u16At b 12) (u16At b 6) (u16At b 14)))
   where
     go : (a m s l z f : Bool)
-        → SizeIs (u32At b 0) (pick a (pick m (pick s (pick l (pick z (pick f (Reel (u16At b 8) (u16At b 10) (u16At b 6) (u32At b 0)) (Fault BadHeader)) (Fault BadSize)) (Fault Cut)) (Fault SmallSize)) (Fault WrongType)) (Fault Cut))
+        → SizeIs (u32At b 0) (cond a (cond m (cond s (cond l (cond z (cond f (Reel (u16At b 8) (u16At b 10) (u16At b 6) (u32At b 0)) (Fault BadHeader)) (Fault BadSize)) (Fault Cut)) (Fault SmallSize)) (Fault WrongType)) (Fault Cut))
     go false m s l z f = tt
     go true false s l z f = tt
     go true true false l z f = tt

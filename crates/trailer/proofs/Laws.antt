@@ -1,14 +1,14 @@
 -- Laws of the index and the trailer, and of checking and writing them, by the order of their checks.
 use mathlib.Core.Path.{_≡_, refl, sym, ap, ap₂, _∙_}
 use mathlib.Core.List.{List, [], _∷_, _++_, append-nil}
-use mathlib.Core.Bool.{Bool}
+use mathlib.Core.Bool.{Bool, cond}
 use Prim.Native.Nat.{ℕ, zero, suc, _+_, _-_, _*_, _≤_, _<_}
 use native.Mathlib.Nat.{not-suc-le-zero, zero-add}
 use native.Mathlib.Omega.{arith}
 use borrow.Author.Tests.{eq-eqb, ne-eqb, le-leb, lt-leb}
 use lib.ListN.{length, take, drop, getD, replicate, length-append, length-drop, length-replicate, drop-of-length-le}
 use lib.Seq.{length-take-le, take-all, take-at, drop-drop}
-use Rattle.words.specs.Words.{pick, part, le16, le32, same}
+use Rattle.words.specs.Words.{part, le16, le32, same}
 use Rattle.words.specs.Writes.{put}
 use Rattle.words.proofs.Laws.{put-front, length-put, span-length, span-back, put-nil, put-append, put-then}
 use Rattle.answer.specs.Answer.{told, done, maxFrames}
@@ -174,7 +174,7 @@ module _ (b : List ℕ) (w h frames size : ℕ) (k : headOf b ≡ head.Reel w h 
 
     -- r: whether what follows the size, l bytes, is the trailer; found to be t
     pub checked-compared : size < length b → (l : ℕ) → l ≡ length b - size → (r t : Bool)
-        → r ≡ same (take l (drop size b)) (trailerOf (topFrames (take n b) m 128 .offsets)) → r ≡ t → checkTrailer b ≡ told (pick t Done (Refused BadTrailer 0))
+        → r ≡ same (take l (drop size b)) (trailerOf (topFrames (take n b) m 128 .offsets)) → r ≡ t → checkTrailer b ≡ told (cond t Done (Refused BadTrailer 0))
     checked-compared s l el r t e f =
         let g : same (drop size b) (trailerOf (topFrames (take n b) m 128 .offsets)) ≡ t =
         ap (λ (x : List ℕ). same x (trailerOf (topFrames (take n b) m 128 .offsets))) (sym (take-all l (drop size b) (simp length-drop (omega arith)))) ∙ sym e ∙ f in

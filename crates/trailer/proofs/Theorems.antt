@@ -7,14 +7,14 @@
 -- an offset is at most the size, which is itself a word of four bytes.
 use mathlib.Core.Path.{_≡_, refl, sym, ap, ap₂, _∙_, subst}
 use mathlib.Core.List.{List, [], _∷_, _++_, append-assoc}
-use mathlib.Core.Bool.{Bool, true, false, _&&_}
+use mathlib.Core.Bool.{Bool, true, false, _&&_, cond}
 use Prim.Native.Nat.{ℕ, suc, _+_, _-_, _*_, _≤_, _<_}
 use native.Mathlib.Omega.{arith}
 use borrow.Author.Tests.{leb-true, leb-false}
 use lib.Dec.{leb}
 use lib.ListN.{length, take, drop, getD, length-append}
 use lib.Seq.{length-take-le, take-all, take-at, drop-at, take-take, drop-drop}
-use Rattle.words.specs.Words.{pick, u32At, le16, le32, same, Bytes}
+use Rattle.words.specs.Words.{u32At, le16, le32, same, Bytes}
 use Rattle.words.specs.Writes.{put}
 use Rattle.words.proofs.Laws.{length-put, same-refl, bytes-getD}
 use Rattle.words.proofs.There.{there-le32}
@@ -168,7 +168,7 @@ module _ (b p q p′ q′ : List ℕ) where
   unfolding checkReel
   check-front c w h frames size k e l =
       ap (λ (x : Head). afterHead c x p q p′ q′) (head-front b c w h frames size k e l)
-      ∙ ap (λ (x : List ℕ). pick (enough (w * h) p q && enough (w * h) p′ q′) (checkedBy (w * h) (playAll false frames w h x) p q p′ q′) (checked (Refused ShortSlice 0) p q p′ q′)) e
+      ∙ ap (λ (x : List ℕ). cond (enough (w * h) p q && enough (w * h) p′ q′) (checkedBy (w * h) (playAll false frames w h x) p q p′ q′) (checked (Refused ShortSlice 0) p q p′ q′)) e
       ∙ sym (ap (λ (x : Head). afterHead b x p q p′ q′) k)
 
   pub check-same : checkReel (writeTrailer b .bytes) p q p′ q′ ≡ checkReel b p q p′ q′

@@ -4,7 +4,8 @@ use mathlib.Core.Path.{_≡_}
 use mathlib.Core.List.{List, [], _∷_, _++_}
 use lib.Dec.{leb, eqb}
 use lib.ListN.{length, take, drop, replicate}
-use Rattle.words.specs.Words.{pick, le16, le32, same}
+use Rattle.words.specs.Words.{le16, le32, same}
+use mathlib.Core.Bool.{cond}
 use Rattle.words.specs.Writes.{put}
 use Rattle.answer.specs.Answer.{Said, told, maxFrames}
 use Rattle.answer.specs.declared.Refusal.the-variants.{NoRoom, BadTrailer}
@@ -29,7 +30,7 @@ trailerOf os = index os ++ le32 (4 * length os + 8) (le16 (length os) (le16 1 []
 
 -- "No bytes after the size is also right. All else is 17"; rest: what stands after the size
 abbrev pub judged : List ℕ → Found → Answer → Answer
-judged rest f Done = pick (eqb (length rest) 0) Done (pick (same rest (trailerOf (f .offsets))) Done (Refused BadTrailer 0))
+judged rest f Done = cond (eqb (length rest) 0) Done (cond (same rest (trailerOf (f .offsets))) Done (Refused BadTrailer 0))
 judged rest f (Refused e place) = Refused e place
 
 -- "Checking or writing a trailer first walks the header and top-level chunks with their refusals": frames + 1 of them, up to the size
@@ -46,7 +47,7 @@ checkTrailer b = told (checkedAfter b (headOf b))
 
 -- "The index begins at the size": t put there, all else unchanged; "Writing gives 3 last"; done gives the file's new length
 abbrev pub stored : ℕ → List ℕ → List ℕ → Output
-stored size t b = pick (leb (size + length t) (length b)) (output (written.Done (size + length t)) (put b size t)) (output (written.Refused NoRoom 0) b)
+stored size t b = cond (leb (size + length t) (length b)) (output (written.Done (size + length t)) (put b size t)) (output (written.Refused NoRoom 0) b)
 
 abbrev pub storedIf : ℕ → List ℕ → Found → Answer → Output
 storedIf size b f Done = stored size (trailerOf (f .offsets)) b

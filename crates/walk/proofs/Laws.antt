@@ -1,7 +1,7 @@
 -- Laws of the file header, of the step from one frame to the next, and of the walk over frame chunks.
 use mathlib.Core.Path.{_≡_, refl, sym, ap, ap₂, _∙_, subst}
 use mathlib.Core.List.{List, [], _∷_}
-use mathlib.Core.Bool.{Bool, true, false, _&&_}
+use mathlib.Core.Bool.{Bool, true, false, _&&_, cond}
 use Prim.Native.Nat.{ℕ, zero, suc, _+_, _-_, _≤_, _<_}
 use native.Mathlib.Nat.{not-suc-le-zero}
 use native.Mathlib.Numerals.{sub-one}
@@ -10,7 +10,7 @@ use borrow.Author.Tests.{le-leb, lt-leb, eq-eqb, ne-eqb, leb-true}
 use lib.ListN.{length, take, drop, getD, length-drop}
 use lib.Seq.{take-all}
 use lib.Dec.{leb, eqb}
-use Rattle.words.specs.Words.{pick, u16At, u32At}
+use Rattle.words.specs.Words.{u16At, u32At}
 use Rattle.words.proofs.There.{drop-word}
 use Rattle.answer.specs.Answer.{sizeOk, maxFrames}
 use Rattle.answer.specs.Format.{FLC-MAGIC, FRAME-TYPE}
@@ -56,7 +56,7 @@ module _ (b : List ℕ) where
     -- where the size field is right, the other fields decide; they are given as they were read
     module _ (least : 128 ≤ u32At b 0) (most : u32At b 0 ≤ length b) where
       judged : Bool → Bool → Head
-      judged s f = pick s (pick f (head.Reel (u16At b 8) (u16At b 10) (u16At b 6) (u32At b 0)) (head.Fault BadHeader)) (head.Fault BadSize)
+      judged s f = cond s (cond f (head.Reel (u16At b 8) (u16At b 10) (u16At b 6) (u32At b 0)) (head.Fault BadHeader)) (head.Fault BadSize)
 
       head-judged : headOf b ≡ judged (sizeOk (u16At b 8) (u16At b 10)) (formOk (u16At b 12) (u16At b 6) (u16At b 14))
       unfolding headOf judged
@@ -104,7 +104,7 @@ head-in b x e =
     (go (leb 128 (length b)) (eqb (u16At b 4) FLC-MAGIC) (leb 128 (u32At b 0)) (leb (u32At b 0) (length b)) (sizeOk (u16At b 8) (u16At b 10)) (formOk (u16At b 12) (u16At b 6) (u16At b 14)) refl refl refl refl)
   where
     go : (a m s l z f : Bool) → leb 128 (u32At b 0) ≡ s → leb (u32At b 0) (length b) ≡ l → sizeOk (u16At b 8) (u16At b 10) ≡ z → formOk (u16At b 12) (u16At b 6) (u16At b 14) ≡ f
-        → HeadIn b (pick a (pick m (pick s (pick l (pick z (pick f (head.Reel (u16At b 8) (u16At b 10) (u16At b 6) (u32At b 0)) (head.Fault BadHeader)) (head.Fault BadSize)) (head.Fault Cut)) (head.Fault SmallSize)) (head.Fault WrongType)) (head.Fault Cut))
+        → HeadIn b (cond a (cond m (cond s (cond l (cond z (cond f (head.Reel (u16At b 8) (u16At b 10) (u16At b 6) (u32At b 0)) (head.Fault BadHeader)) (head.Fault BadSize)) (head.Fault Cut)) (head.Fault SmallSize)) (head.Fault WrongType)) (head.Fault Cut))
     go false m s l z f p q r t = tt
     go true false s l z f p q r t = tt
     go true true false l z f p q r t = tt
@@ -148,11 +148,11 @@ stepped-same b at (chunk.Chunk kind end) f g i h = h end (i .0)
 -- one chunk, and then what the rest gives
 abbrev walked : List ℕ → ℕ → (ℕ → Next) → Next
 walked b at rest =
-    pick (leb (at + 6) (length b)) (pick (eqb (u16At b (at + 4)) FRAME-TYPE) (packedAt b at) (steppedOver at (headerAt b at) rest)) (Fault FewFrames at)
+    cond (leb (at + 6) (length b)) (cond (eqb (u16At b (at + 4)) FRAME-TYPE) (packedAt b at) (steppedOver at (headerAt b at) rest)) (Fault FewFrames at)
 
 walked-same : (b : List ℕ) (at : ℕ) (f g : ℕ → Next) → ((end : ℕ) → at + 6 ≤ end → f end ≡ g end) → walked b at f ≡ walked b at g
 walked-same b at f g h =
-    ap (λ (x : Next). pick (leb (at + 6) (length b)) (pick (eqb (u16At b (at + 4)) FRAME-TYPE) (packedAt b at) x) (Fault FewFrames at))
+    ap (λ (x : Next). cond (leb (at + 6) (length b)) (cond (eqb (u16At b (at + 4)) FRAME-TYPE) (packedAt b at) x) (Fault FewFrames at))
     (stepped-same b at (headerAt b at) f g (header-in b at _ refl) h)
 
 walked-past : (b : List ℕ) (at : ℕ) (rest : ℕ → Next) → length b < at + 6 → walked b at rest ≡ Fault FewFrames at
@@ -181,7 +181,7 @@ module _ (b : List ℕ) (at : ℕ) (h : at + 6 ≤ length b) where
   pub next-over : (u16At b (at + 4) ≡ FRAME-TYPE → ⊥) → (x : Header) → headerAt b at ≡ x → nextAt b at ≡ steppedOver at x (λ end. nextAt b end)
   next-over t x e =
       next-step b at
-      ∙ ap (λ (y : Header). pick (leb (at + 6) (length b)) (pick (eqb (u16At b (at + 4)) FRAME-TYPE) (packedAt b at) (steppedOver at y (λ end. nextAt b end))) (Fault FewFrames at)) e
+      ∙ ap (λ (y : Header). cond (leb (at + 6) (length b)) (cond (eqb (u16At b (at + 4)) FRAME-TYPE) (packedAt b at) (steppedOver at y (λ end. nextAt b end))) (Fault FewFrames at)) e
       ∙ simp (le-leb (at + 6) (length b) h, ne-eqb (u16At b (at + 4)) FRAME-TYPE t)
 
 -- where a frame lies
@@ -205,7 +205,7 @@ within-in zero b at h = tt
 within-in (suc n) b at h = go (leb (at + 6) (length b)) (eqb (u16At b (at + 4)) FRAME-TYPE) (headerAt b at) (header-in b at _ refl) (λ end i. within-in n b end i)
   where
     go : (t f : Bool) (x : Header) → HeaderIn b at x → ((end : ℕ) → end ≤ length b → NextIn b end (within n b end))
-        → NextIn b at (pick t (pick f (packedAt b at) (steppedOver at x (λ end. within n b end))) (Fault FewFrames at))
+        → NextIn b at (cond t (cond f (packedAt b at) (steppedOver at x (λ end. within n b end))) (Fault FewFrames at))
     go false f x i rest = tt
     go true true x i rest = packed-in b at h
     go true false (chunk.Fault e) i rest = tt
@@ -292,7 +292,7 @@ within-place (suc n) b at h =
     by (leb (at + 6) (length b)) (eqb (u16At b (at + 4)) FRAME-TYPE) (headerAt b at) (header-in b at _ refl) (λ end i. within-place n b end i)
   where
     by : (t f : Bool) (x : Header) → HeaderIn b at x → ((end : ℕ) → end ≤ length b → PlaceIn b (within n b end))
-        → PlaceIn b (pick t (pick f (packedAt b at) (steppedOver at x (λ end. within n b end))) (Fault FewFrames at))
+        → PlaceIn b (cond t (cond f (packedAt b at) (steppedOver at x (λ end. within n b end))) (Fault FewFrames at))
     by false f x i rest = h
     by true true x i rest = framed-place b at (frameHeader (drop at b)) h
     by true false (chunk.Fault e) i rest = h

@@ -1,10 +1,10 @@
 -- The 128-byte file header as a reader checks it (document 001, "The FLC file header"; document 01, "Refusal numbers").
 use Prim.Native.Nat.{ℕ}
 use mathlib.Core.List.{List}
-use mathlib.Core.Bool.{Bool, _&&_}
+use mathlib.Core.Bool.{Bool, _&&_, cond}
 use lib.ListN.{length}
 use lib.Dec.{leb, eqb}
-use Rattle.words.specs.Words.{pick, u16At, u32At}
+use Rattle.words.specs.Words.{u16At, u32At}
 use Rattle.answer.specs.Answer.{sizeOk, maxFrames}
 use Rattle.answer.specs.Format.{FLC-MAGIC}
 use Rattle.answer.specs.declared.Refusal.the-variants.{Cut, WrongType, SmallSize, BadSize, BadHeader}
@@ -40,12 +40,12 @@ formOk depth frames flags = eqb depth 8 && (leb 1 frames && (leb frames maxFrame
 -- "Reel: 4, 5, size field 6 then 4, 2, 14"
 unfoldable pub headOf : List ℕ → Head
 headOf b =
-    pick (leb 128 (length b))
-    (pick (eqb (u16At b MAGIC-AT) FLC-MAGIC)
-    (pick (leb 128 (u32At b SIZE-AT))
-    (pick (leb (u32At b SIZE-AT) (length b))
-    (pick (sizeOk (u16At b WIDTH-AT) (u16At b HEIGHT-AT))
-    (pick (formOk (u16At b DEPTH-AT) (u16At b FRAMES-AT) (u16At b FLAGS-AT))
+    cond (leb 128 (length b))
+    (cond (eqb (u16At b MAGIC-AT) FLC-MAGIC)
+    (cond (leb 128 (u32At b SIZE-AT))
+    (cond (leb (u32At b SIZE-AT) (length b))
+    (cond (sizeOk (u16At b WIDTH-AT) (u16At b HEIGHT-AT))
+    (cond (formOk (u16At b DEPTH-AT) (u16At b FRAMES-AT) (u16At b FLAGS-AT))
     (Reel (u16At b WIDTH-AT) (u16At b HEIGHT-AT) (u16At b FRAMES-AT) (u32At b SIZE-AT))
     (Fault BadHeader))
     (Fault BadSize))

@@ -1,10 +1,10 @@
 -- From one frame chunk to the next, and so over the frame chunks of a reel. b: the reel up to its size, or up to the record's end in a reel being closed.
 use Prim.Native.Nat.{ℕ, zero, suc, _+_}
 use mathlib.Core.List.{List, [], _∷_}
-use mathlib.Core.Bool.{Bool, true, false}
+use mathlib.Core.Bool.{Bool, true, false, cond}
 use lib.ListN.{length, drop}
 use lib.Dec.{leb, eqb}
-use Rattle.words.specs.Words.{pick, u16At}
+use Rattle.words.specs.Words.{u16At}
 use Rattle.answer.specs.Format.{FRAME-TYPE}
 use Rattle.answer.specs.declared.Refusal.the-variants.{FewFrames}
 use Rattle.answer.specs.declared.Answer.{Answer}
@@ -37,8 +37,8 @@ unfoldable pub within : ℕ → List ℕ → ℕ → Next
 unfolding packedAt headerAt
 within zero b at = Fault FewFrames at
 within (suc left) b at =
-    pick (leb (at + 6) (length b))
-    (pick (eqb (u16At b (at + 4)) FRAME-TYPE)
+    cond (leb (at + 6) (length b))
+    (cond (eqb (u16At b (at + 4)) FRAME-TYPE)
     (packedAt b at)
     (steppedOver at (headerAt b at) (λ end. within left b end)))
     (Fault FewFrames at)

@@ -3,14 +3,9 @@ use mathlib.Core.List.{List, [], _∷_, _++_}
 use mathlib.Core.Bool.{Bool, true, false}
 use Prim.Native.Nat.{ℕ, suc, zero, _<_, _+_}
 use lib.ListN.{length, take, drop, replicate}
-use Rattle.words.specs.Words.{pick, Bytes}
+use Rattle.words.specs.Words.{Bytes}
 use Rattle.words.specs.Writes.{Write, put, written}
 use Rattle.words.proofs.Laws.{bytes-take, bytes-drop}
-
--- what holds of both values holds of the one picked
-pub pick-holds : {X : Type 0} (P : X → Type 0) (c : Bool) (x y : X) → P x → P y → P (pick c x y)
-pick-holds P true x y p q = p
-pick-holds P false x y p q = q
 
 -- lists of bytes
 

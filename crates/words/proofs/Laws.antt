@@ -1,7 +1,7 @@
 -- Laws of the definitions in specs/: signed bytes, `put`, `written`, parts of a slice, `same`.
 use mathlib.Core.Path.{_≡_, ap, ap₂, _∙_, sym, refl, subst}
 use mathlib.Core.List.{List, [], _∷_, _++_, append-assoc}
-use mathlib.Core.Bool.{Bool, true, false}
+use mathlib.Core.Bool.{Bool, true, false, cond}
 use Prim.Native.Nat.{ℕ, suc, zero, _≤_, _<_, _+_, _-_, _*_}
 use native.Mathlib.Nat.{zero-add, add-sub-cancel-left, mul-le-mul-right, mul-comm, add-zero}
 use native.Mathlib.Omega.{arith}
@@ -10,7 +10,7 @@ use lib.ListN.{length, drop, take, set, getD, length-append, length-drop, length
 use lib.Seq.{length-take-le, drop-drop, drop-cons, set-split, take-at, drop-at, take-append-le, take-take}
 use native.Mathlib.Numerals.{add-one}
 use borrow.Author.Tests.{lt-ltb, le-ltb, eq-eqb, ne-eqb, eqb-true}
-use Rattle.words.specs.Words.{pick, magnitude, le16, le32, chunk, same, Bytes}
+use Rattle.words.specs.Words.{magnitude, le16, le32, chunk, same, Bytes}
 use Rattle.words.specs.Writes.{Write, put, written}
 
 -- a signed byte
@@ -129,14 +129,14 @@ same-eq [] (y ∷ ys) e = false-not-true e
 same-eq (x ∷ xs) [] e = false-not-true e
 same-eq (x ∷ xs) (y ∷ ys) e = by-case (eqb x y) refl e (λ d. same-eq xs ys d)
   where
-    by-case : (b : Bool) → eqb x y ≡ b → pick b (same xs ys) false ≡ true → (same xs ys ≡ true → xs ≡ ys) → x ∷ xs ≡ y ∷ ys
+    by-case : (b : Bool) → eqb x y ≡ b → cond b (same xs ys) false ≡ true → (same xs ys ≡ true → xs ≡ ys) → x ∷ xs ≡ y ∷ ys
     by-case true d e again = ap₂ (λ (a : ℕ) (l : List ℕ). a ∷ l) (eqb-true x y d) (again e)
     by-case false d e again = false-not-true e
 
 pub same-refl : (a : List ℕ) → same a a ≡ true
 unfolding same
 same-refl [] = refl
-same-refl (x ∷ xs) = ap (λ (t : Bool). pick t (same xs xs) false) (eq-eqb x x refl) ∙ same-refl xs
+same-refl (x ∷ xs) = ap (λ (t : Bool). cond t (same xs xs) false) (eq-eqb x x refl) ∙ same-refl xs
 
 -- lists of other lengths are not the same
 pub same-other : (a b : List ℕ) → (length a ≡ length b → ⊥) → same a b ≡ false
@@ -152,35 +152,35 @@ module _ (a b : List ℕ) (i : ℕ) (l : length a ≡ length b) where
   unfolding same
   same-goes h e =
       ap₂ same (drop-cons a i 0 h) (drop-cons b i 0 (omega arith))
-      ∙ ap (λ (t : Bool). pick t (same (drop (suc i) a) (drop (suc i) b)) false) (eq-eqb (getD a i 0) (getD b i 0) e)
+      ∙ ap (λ (t : Bool). cond t (same (drop (suc i) a) (drop (suc i) b)) false) (eq-eqb (getD a i 0) (getD b i 0) e)
 
   pub same-stops : i < length a → (getD a i 0 ≡ getD b i 0 → ⊥) → same (drop i a) (drop i b) ≡ false
   unfolding same
   same-stops h e =
       ap₂ same (drop-cons a i 0 h) (drop-cons b i 0 (omega arith))
-      ∙ ap (λ (t : Bool). pick t (same (drop (suc i) a) (drop (suc i) b)) false) (ne-eqb (getD a i 0) (getD b i 0) e)
+      ∙ ap (λ (t : Bool). cond t (same (drop (suc i) a) (drop (suc i) b)) false) (ne-eqb (getD a i 0) (getD b i 0) e)
 
   pub same-ends : length a ≤ i → same (drop i a) (drop i b) ≡ true
   unfolding same
   same-ends h = ap₂ same (drop-of-length-le a {i = i} h) (drop-of-length-le b {i = i} (omega arith))
 
   -- the same with whether a byte differed before, other being 0 or not: at an equal byte, at another, at the end
-  pub same-kept : (other : ℕ) → i < length a → same a b ≡ pick (eqb other 0) (same (drop i a) (drop i b)) false → getD a i 0 ≡ getD b i 0
-      → same a b ≡ pick (eqb other 0) (same (drop (suc i) a) (drop (suc i) b)) false
-  same-kept other h e f = e ∙ ap (λ (t : Bool). pick (eqb other 0) t false) (same-goes h f)
+  pub same-kept : (other : ℕ) → i < length a → same a b ≡ cond (eqb other 0) (same (drop i a) (drop i b)) false → getD a i 0 ≡ getD b i 0
+      → same a b ≡ cond (eqb other 0) (same (drop (suc i) a) (drop (suc i) b)) false
+  same-kept other h e f = e ∙ ap (λ (t : Bool). cond (eqb other 0) t false) (same-goes h f)
 
-  pub same-lost : (other : ℕ) → i < length a → same a b ≡ pick (eqb other 0) (same (drop i a) (drop i b)) false → (getD a i 0 ≡ getD b i 0 → ⊥)
+  pub same-lost : (other : ℕ) → i < length a → same a b ≡ cond (eqb other 0) (same (drop i a) (drop i b)) false → (getD a i 0 ≡ getD b i 0 → ⊥)
       → same a b ≡ false
   same-lost other h e f = go (eqb other 0) e
     where
-      go : (t : Bool) → same a b ≡ pick t (same (drop i a) (drop i b)) false → same a b ≡ false
+      go : (t : Bool) → same a b ≡ cond t (same (drop i a) (drop i b)) false → same a b ≡ false
       go true e = e ∙ same-stops h f
       go false e = e
 
-  pub same-told : (other : ℕ) → length a ≤ i → same a b ≡ pick (eqb other 0) (same (drop i a) (drop i b)) false → eqb other 0 ≡ same a b
+  pub same-told : (other : ℕ) → length a ≤ i → same a b ≡ cond (eqb other 0) (same (drop i a) (drop i b)) false → eqb other 0 ≡ same a b
   same-told other h e = sym (e ∙ go (eqb other 0))
     where
-      go : (t : Bool) → pick t (same (drop i a) (drop i b)) false ≡ t
+      go : (t : Bool) → cond t (same (drop i a) (drop i b)) false ≡ t
       go true = same-ends h
       go false = refl
 

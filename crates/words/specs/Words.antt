@@ -1,19 +1,19 @@
--- Signed bytes, little-endian words in a list of bytes and in front of one, a chunk, and the choice between two values by a test.
+-- Signed bytes, little-endian words in a list of bytes and in front of one, a chunk, and a chain of checks.
 use Prim.Native.Nat.{ℕ, _+_, _*_, _-_, _/_, _%_, _<_}
 use mathlib.Core.List.{List, [], _∷_}
-use mathlib.Core.Bool.{Bool, true, false}
+use mathlib.Core.Bool.{Bool, true, false, cond}
 use mathlib.Core.Path.{_≡_}
 use lib.ListN.{length, getD, take, drop}
 use lib.Dec.{eqb, ltb}
 
--- a if the test holds, else b
-abbrev pub pick : {X : Type 0} → Bool → X → X → X
-pick true a b = a
-pick false a b = b
+-- A chain of checks in the paper's order: what is refused where the test fails, then what comes after.
+infixr 5 require_else_then_
+abbrev pub require_else_then_ : {X : Type 0} → Bool → X → X → X
+require t else e then x = cond t x e
 
 -- the absolute value of a signed byte: 128 to 255 stand for -128 to -1
 unfoldable pub magnitude : ℕ → ℕ
-magnitude t = pick (ltb t 128) t (256 - t)
+magnitude t = cond (ltb t 128) t (256 - t)
 
 -- the 16-bit word at offset i
 unfoldable pub u16At : List ℕ → ℕ → ℕ
@@ -53,7 +53,7 @@ unfoldable pub same : List ℕ → List ℕ → Bool
 same [] [] = true
 same [] (y ∷ ys) = false
 same (x ∷ xs) [] = false
-same (x ∷ xs) (y ∷ ys) = pick (eqb x y) (same xs ys) false
+same (x ∷ xs) (y ∷ ys) = cond (eqb x y) (same xs ys) false
 
 -- each number is a byte
 abbrev pub Bytes : List ℕ → Type 0

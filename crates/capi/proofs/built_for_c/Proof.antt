@@ -1,7 +1,6 @@
 -- `built_for_c` meets its contract: number, place and record are those that the answer is told by.
 use mathlib.Core.Path.{_≡_, ap, sym, _∙_}
-use mathlib.Core.Bool.{Bool}
-use Rattle.words.specs.Words.{pick}
+use mathlib.Core.Bool.{Bool, cond}
 use Rattle.build.specs.declared.Reel.{Reel}
 use Rattle.build.specs.Record.{toldBuilt}
 use Rattle.build.specs.declared.Built.{Built}
@@ -14,8 +13,8 @@ use Rattle.capi.proofs.built_for_c.Tie as tie
 
 -- the values of a reel, closed as 1 or 0
 recorded : (r : Reel) (x : Record) (shut : Bool) → r .closed ≡ shut
-    → record { width = r .width; height = r .height; frames = r .frames; end = r .end; closed = pick shut 1 0 } ≡ recordOf (toldBuilt (Done r)) x
-recorded r x shut e = ap (λ (t : Bool). record { width = r .width; height = r .height; frames = r .frames; end = r .end; closed = pick t 1 0 }) (sym e)
+    → record { width = r .width; height = r .height; frames = r .frames; end = r .end; closed = cond shut 1 0 } ≡ recordOf (toldBuilt (Done r)) x
+recorded r x shut e = ap (λ (t : Bool). record { width = r .width; height = r .height; frames = r .frames; end = r .end; closed = cond t 1 0 }) (sym e)
 
 enum-known-a : tie.Need-enum-known-a
 enum-known-a c = search needs

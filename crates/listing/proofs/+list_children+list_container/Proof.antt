@@ -5,13 +5,12 @@ use Prim.Native.Nat.{ℕ, _+_, _-_, _*_, _<_, _≤_}
 use mathlib.Core.Path.{_≡_, refl, sym, _∙_}
 use mathlib.Core.List.{[]}
 use mathlib.Core.Logic.{⊎-elim}
-use mathlib.Core.Bool.{true, false}
+use mathlib.Core.Bool.{true, false, cond}
 use native.Mathlib.Omega.{arith}
 use native.Mathlib.Nat.{sub-zero}
 use borrow.Author.Needs.{needs}
 use lib.ListN.{length}
 use lib.Seq.{length-take-le}
-use Rattle.words.specs.Words.{pick}
 use Rattle.text.specs.Stored.{Stored}
 use Rattle.text.specs.Text.{chunkLine}
 use Rattle.listing.specs.Listing.{opens, containerOf, childrenOf, inside}
@@ -164,7 +163,7 @@ list-children-loop-again t c =
     let end = c .before .before .before .before .before .before .before .kind .given .0 .1 .0 in
     let p = c .before .before .before .before .put-line in
     let line = chunkLine (a .depth) (l .at) kind (end - l .at) in
-    let opened = pick (opens kind (a .parent)) (containerOf (a .b .now) (a .depth) (l .at) end kind) [] in
+    let opened = cond (opens kind (a .parent)) (containerOf (a .b .now) (a .depth) (l .at) end kind) [] in
     let room = opened-short (a .b .now) (λ i. omega (arith, c .before .before .before .before .before .before .before .before .before .before .before .before .before .shared-slice-known .given i)) (omega arith) (a .depth) (omega arith) (opens kind (a .parent)) (a .to - 0) (l .at) kind end (omega arith) x in
     let came : Stored (p .last .0) (p .result) opened (c .if1 .out) (c .if1 .n) × (c .if1 .at ≡ end) =
     ⊎-elim

@@ -1,0 +1,12 @@
+-- A test by its two cases, each with its equation.
+use mathlib.Core.Path.{_≡_, refl}
+use mathlib.Core.Bool.{Bool, true, false, cond}
+
+pub by-test : (C : Bool → Type 0) (t : Bool) → (t ≡ true → C true) → (t ≡ false → C false) → C t
+by-test C true f g = f refl
+by-test C false f g = g refl
+
+-- what holds of both values holds of the one chosen
+pub cond-holds : {X : Type 0} (P : X → Type 0) (t : Bool) (x y : X) → P x → P y → P (cond t x y)
+cond-holds P true x y p q = p
+cond-holds P false x y p q = q
