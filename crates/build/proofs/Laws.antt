@@ -1,4 +1,4 @@
--- Laws of what a call that builds a reel answers, of the header that it writes, of a frame put at an offset, and of the calls, by the order of their checks.
+-- Laws of what a call that builds a reel answers, of a frame put at an offset, and of the calls, by the order of their checks.
 use mathlib.Core.Path.{_≡_, refl, sym, ap, ap₂, _∙_}
 use mathlib.Core.List.{List, [], _∷_, _++_, append-assoc}
 use mathlib.Core.Bool.{Bool, true, false, _&&_, cond}
@@ -6,13 +6,12 @@ use Prim.Native.Nat.{ℕ, _+_, _*_, _≤_, _<_}
 use native.Mathlib.Omega.{arith}
 use borrow.Author.Tests.{le-leb, lt-leb, leb-true, leb-false, ltb-true, ltb-false}
 use lib.Dec.{leb, ltb}
-use lib.ListN.{length, take, drop, replicate, length-drop, take-append-drop}
+use lib.ListN.{length, take, drop, length-drop, take-append-drop}
 use lib.Seq.{length-take-le, drop-drop, drop-append-le}
-use Rattle.words.specs.Words.{le16, le32}
 use Rattle.words.specs.Writes.{put}
 use Rattle.words.proofs.Laws.{put-front, lent-back}
+use Rattle.words.proofs.Tests.{by-test, cond-holds}
 use Rattle.answer.specs.Answer.{Said, done, refused, number, sizeOk, maxFrames}
-use Rattle.answer.specs.Format.{FLC-MAGIC}
 use Rattle.answer.specs.declared.Refusal.{Refusal}
 use Rattle.answer.specs.declared.Refusal.the-variants.{ShortSlice, BadSize, NoRoom, Cut, WrongTime}
 use Rattle.answer.specs.declared.Written.{Written}
@@ -25,7 +24,8 @@ use Rattle.build.specs.declared.Reel.{Reel}
 use Rattle.build.specs.declared.Built.{Built}
 use Rattle.build.specs.declared.Built.the-variants.{Done, Refused}
 use Rattle.build.specs.Record.{reel, values, toldBuilt, made}
-use Rattle.build.specs.Header.{aspect, FLIB, opened}
+use Rattle.reel_header.specs.Written.{opened}
+use Rattle.reel_header.proofs.Laws.{opened-length}
 use Rattle.build.specs.Building.{openReel, endOk, mostBytes, longest, fits, appended, added, addOk, addFrame}
 
 -- no two answers are told alike
@@ -57,36 +57,16 @@ told-built-injective (Refused d at) (Refused e to) p =
     let q : at ≡ to = cc in
     ap₂ (λ (x : Refusal) (y : ℕ). Refused x y) (number-injective d e n) q
 
--- the header
-
-pub opened-length : (w h speed : ℕ) → length (opened w h speed) ≡ 128
-unfolding opened
-opened-length w h speed = refl
-
--- its fields, each stored in what stood before
-pub opened-stored : (w h speed : ℕ) (d₀ d₁ d₂ d₃ d₄ d₅ d₆ d₇ d₈ d₉ : List ℕ) (x y : ℕ) → d₀ ≡ replicate 128 0 → d₁ ≡ put d₀ 4 (le16 FLC-MAGIC [])
-    → d₂ ≡ put d₁ 8 (le16 w []) → d₃ ≡ put d₂ 10 (le16 h []) → d₄ ≡ put d₃ 12 (le16 8 []) → d₅ ≡ put d₄ 16 (le32 speed [])
-    → d₆ ≡ put d₅ 26 (le32 FLIB []) → d₇ ≡ put d₆ 34 (le32 FLIB []) → x ≡ aspect w h 6 → d₈ ≡ put d₇ 38 (le16 x [])
-    → y ≡ aspect w h 5 → d₉ ≡ put d₈ 40 (le16 y []) → d₉ ≡ opened w h speed
-unfolding opened
-opened-stored w h speed d₀ d₁ d₂ d₃ d₄ d₅ d₆ d₇ d₈ d₉ x y e₀ e₁ e₂ e₃ e₄ e₅ e₆ e₇ i e₈ j e₉ = rw (e₉, e₈, e₇, e₆, e₅, e₄, e₃, e₂, e₁, e₀, i, j)
-
 -- how many of the lent bytes a file may fill
 
 module _ (room : ℕ) where
   pub longest-within : (longest room ≤ room) × (longest room ≤ mostBytes)
-  longest-within = by-test (ltb room mostBytes) refl
-    where
-      by-test : (t : Bool) → ltb room mostBytes ≡ t → (cond t room mostBytes ≤ room) × (cond t room mostBytes ≤ mostBytes)
-      by-test true e = let k = ltb-true room mostBytes e in (omega arith, omega arith)
-      by-test false e = let k = ltb-false room mostBytes e in (omega arith, omega arith)
+  longest-within =
+      by-test (λ (t : Bool). (cond t room mostBytes ≤ room) × (cond t room mostBytes ≤ mostBytes)) (ltb room mostBytes)
+      (λ e. let k = ltb-true room mostBytes e in (omega arith, omega arith)) (λ e. let k = ltb-false room mostBytes e in (omega arith, omega arith))
 
   pub longest-most : (n : ℕ) → n ≤ room → n ≤ mostBytes → n ≤ longest room
-  longest-most n h k = by-test (ltb room mostBytes)
-    where
-      by-test : (t : Bool) → n ≤ cond t room mostBytes
-      by-test true = h
-      by-test false = k
+  longest-most n h k = cond-holds (λ (m : ℕ). n ≤ m) (ltb room mostBytes) room mostBytes h k
 
 -- bytes put at an offset, where they fit
 
@@ -102,39 +82,33 @@ module _ (end : ℕ) (f b : List ℕ) where
       rw (le-leb (end + length f) (length b) (omega arith), le-leb (end + length f) mostBytes (omega arith))
 
   pub fits-not : longest (length b) < end + length f → fits end f b ≡ false
-  fits-not h = by-test (leb (end + length f) (length b)) (leb (end + length f) mostBytes) refl refl
-    where
-      by-test : (s t : Bool) → leb (end + length f) (length b) ≡ s → leb (end + length f) mostBytes ≡ t → (s && t) ≡ false
-      by-test false t p q = refl
-      by-test true false p q = refl
-      by-test true true p q =
-          absurd (omega (arith, longest-most (length b) (end + length f) (leb-true (end + length f) (length b) p) (leb-true (end + length f) mostBytes q)))
+  fits-not h =
+      by-test (λ (s : Bool). (s && leb (end + length f) mostBytes) ≡ false) (leb (end + length f) (length b))
+      (λ p. by-test (λ (t : Bool). t ≡ false) (leb (end + length f) mostBytes)
+      (λ q. absurd (omega (arith, longest-most (length b) (end + length f) (leb-true (end + length f) (length b) p) (leb-true (end + length f) mostBytes q))))
+      (λ q. refl))
+      (λ p. refl)
 
   pub append-none : longest (length b) < end → output (written.Refused NoRoom 0) b ≡ appended end f b
   append-none h = rw (fits-not (omega arith))
 
+  abbrev by-room : Bool → Output
+  by-room t = cond t (output (written.Done (end + length f)) (put b end f)) (output (written.Refused NoRoom 0) b)
+
   -- what the answer tells; x: what the bytes hold afterwards
   module _ (x : List ℕ) where
     pub append-done : (n : ℕ) → output (written.Done n) x ≡ appended end f b → (fits end f b ≡ true) × (n ≡ end + length f) × (x ≡ put b end f)
-    append-done n o = by-test (fits end f b) refl (ap (λ (y : Output). y .said) o) (ap (λ (y : Output). y .bytes) o)
-      where
-        by-test : (t : Bool) → fits end f b ≡ t
-            → done (n ∷ []) ≡ cond t (output (written.Done (end + length f)) (put b end f)) (output (written.Refused NoRoom 0) b) .said
-            → x ≡ cond t (output (written.Done (end + length f)) (put b end f)) (output (written.Refused NoRoom 0) b) .bytes
-            → (fits end f b ≡ true) × (n ≡ end + length f) × (x ≡ put b end f)
-        by-test true e p q = (e, (cc), q)
-        by-test false e p q = let z : _≡_ {A = ℕ} 0 1 = cc in absurd (omega arith)
+    append-done n o =
+        by-test (λ (t : Bool). output (written.Done n) x ≡ by-room t → (t ≡ true) × (n ≡ end + length f) × (x ≡ put b end f)) (fits end f b)
+        (λ e o. let p = ap (λ (y : Output). y .said) o in (refl, (cc), ap (λ (y : Output). y .bytes) o))
+        (λ e o. let p = ap (λ (y : Output). y .said) o in let z : _≡_ {A = ℕ} 0 1 = cc in absurd (omega arith)) o
 
     pub append-refused : (e : Refusal) (place : ℕ) → output (written.Refused e place) x ≡ appended end f b
         → (fits end f b ≡ false) × (refused (number e) place ≡ refused (number NoRoom) 0) × (x ≡ b)
-    append-refused e place o = by-test (fits end f b) refl (ap (λ (y : Output). y .said) o) (ap (λ (y : Output). y .bytes) o)
-      where
-        by-test : (t : Bool) → fits end f b ≡ t
-            → refused (number e) place ≡ cond t (output (written.Done (end + length f)) (put b end f)) (output (written.Refused NoRoom 0) b) .said
-            → x ≡ cond t (output (written.Done (end + length f)) (put b end f)) (output (written.Refused NoRoom 0) b) .bytes
-            → (fits end f b ≡ false) × (refused (number e) place ≡ refused (number NoRoom) 0) × (x ≡ b)
-        by-test true e p q = let z : _≡_ {A = ℕ} 0 1 = cc in absurd (omega arith)
-        by-test false e p q = (e, p, q)
+    append-refused e place o =
+        by-test (λ (t : Bool). output (written.Refused e place) x ≡ by-room t → (t ≡ false) × (refused (number e) place ≡ refused (number NoRoom) 0) × (x ≡ b)) (fits end f b)
+        (λ k o. let p = ap (λ (y : Output). y .said) o in let z : _≡_ {A = ℕ} 0 1 = cc in absurd (omega arith))
+        (λ k o. (refl, ap (λ (y : Output). y .said) o, ap (λ (y : Output). y .bytes) o)) o
 
 -- an answer about the part of b from end on, k long, as an answer about b: what is done ends that much further on
 abbrev shifted : ℕ → Said → Said
@@ -167,16 +141,13 @@ module _ (b f : List ℕ) (end k : ℕ) where
     length-part = length-take-le k (drop end b) part-long
 
     laid-appended : laid b end k (fitted f (take k (drop end b))) ≡ appended end f b
-    laid-appended = by-test (leb (length f) (length (take k (drop end b)))) refl
-      where
-        by-test : (t : Bool) → leb (length f) (length (take k (drop end b))) ≡ t
-            → laid b end k (cond t (output (written.Done (length f)) (put (take k (drop end b)) 0 f)) (output (written.Refused NoRoom 0) (take k (drop end b)))) ≡ appended end f b
-        by-test true p =
-            let h : length f ≤ k = omega (arith, leb-true (length f) (length (take k (drop end b))) p, length-part) in
-            rw (fits-is end f b (omega arith)) (ap (λ (x : List ℕ). output (written.Done (end + length f)) x) (put-laid h part-long))
-        by-test false p =
-            let h : k < length f = omega (arith, leb-false (length f) (length (take k (drop end b))) p, length-part) in
-            rw (fits-not end f b (omega arith)) (ap (λ (x : List ℕ). output (written.Refused NoRoom 0) x) none-laid)
+    laid-appended =
+        by-test (λ (t : Bool). laid b end k (cond t (output (written.Done (length f)) (put (take k (drop end b)) 0 f)) (output (written.Refused NoRoom 0) (take k (drop end b)))) ≡ appended end f b)
+        (leb (length f) (length (take k (drop end b))))
+        (λ p. let h : length f ≤ k = omega (arith, leb-true (length f) (length (take k (drop end b))) p, length-part) in
+        rw (fits-is end f b (omega arith)) (ap (λ (x : List ℕ). output (written.Done (end + length f)) x) (put-laid h part-long)))
+        (λ p. let h : k < length f = omega (arith, leb-false (length f) (length (take k (drop end b))) p, length-part) in
+        rw (fits-not end f b (omega arith)) (ap (λ (x : List ℕ). output (written.Refused NoRoom 0) x) none-laid))
 
     -- a: the answer about the part, which is z; x: what the part holds afterwards
     module _ (a z : Written) (x : List ℕ) (i : a ≡ z) (o : output a x ≡ fitted f (take k (drop end b))) where
@@ -207,12 +178,10 @@ abbrev pub counted : Reel → Output → Output
 counted r o = record { said = recorded r (o .said); bytes = o .bytes }
 
 counted-added : (r : Reel) (f b : List ℕ) → counted r (appended (r .end) f b) ≡ added r f b
-counted-added r f b = by-test (fits (r .end) f b)
-  where
-    by-test : (t : Bool) → counted r (cond t (output (written.Done (r .end + length f)) (put b (r .end) f)) (output (written.Refused NoRoom 0) b))
-        ≡ cond t (made (Done (reel (r .width) (r .height) (r .frames + 1) (r .end + length f) false)) (put b (r .end) f)) (made (Refused NoRoom 0) b)
-    by-test true = refl
-    by-test false = refl
+counted-added r f b =
+    by-test (λ (t : Bool). counted r (cond t (output (written.Done (r .end + length f)) (put b (r .end) f)) (output (written.Refused NoRoom 0) b))
+    ≡ cond t (made (Done (reel (r .width) (r .height) (r .frames + 1) (r .end + length f) false)) (put b (r .end) f)) (made (Refused NoRoom 0) b)) (fits (r .end) f b)
+    (λ e. refl) (λ e. refl)
 
 -- opening a reel
 

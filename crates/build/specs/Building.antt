@@ -4,6 +4,7 @@ use mathlib.Core.List.{List}
 use mathlib.Core.Bool.{Bool, false, _&&_, cond}
 use lib.Dec.{leb, ltb}
 use lib.ListN.{length}
+use Rattle.words.specs.Words.{require_else_then_}
 use Rattle.words.specs.Writes.{put}
 use Rattle.answer.specs.Answer.{sizeOk, maxFrames}
 use Rattle.answer.specs.declared.Refusal.the-variants.{ShortSlice, BadSize, NoRoom, Cut, WrongTime}
@@ -11,24 +12,23 @@ use Rattle.answer.specs.declared.Written.the-variants as written
 use Rattle.frame.specs.Reading.{front, enough}
 use Rattle.house.specs.House.{houseFrame}
 use Rattle.house.specs.Writing.{Output, output}
+use Rattle.chunks.specs.Spans.{HEADER-BYTES}
 use Rattle.build.specs.declared.Reel.{Reel}
 use Rattle.build.specs.declared.Built.the-variants.{Done, Refused}
 use Rattle.build.specs.Record.{reel, made}
-use Rattle.build.specs.Header.{opened}
+use Rattle.reel_header.specs.Written.{opened}
 
 -- "Writing: .. 2, .. 3": the header at the front of the lent bytes
 unfoldable pub openReel : ℕ → ℕ → ℕ → List ℕ → Output
 unfolding opened
-openReel w h speed b =
-    cond (sizeOk w h)
-    (cond (leb 128 (length b))
-    (made (Done (reel w h 0 128 false)) (put b 0 (opened w h speed)))
-    (made (Refused NoRoom 0) b))
-    (made (Refused BadSize 0) b)
+openReel width height speed bytes =
+    require sizeOk width height else made (Refused BadSize 0) bytes then
+    require leb HEADER-BYTES (length bytes) else made (Refused NoRoom 0) bytes then
+    made (Done (reel width height 0 HEADER-BYTES false)) (put bytes 0 (opened width height speed))
 
 -- refusal 4: "An add or close whose record ends before 128 or past the lent bytes"
 abbrev pub endOk : ℕ → ℕ → Bool
-endOk end room = leb 128 end && leb end room
+endOk end room = leb HEADER-BYTES end && leb end room
 
 -- refusal 3: "a size passes 32 bits"
 abbrev pub mostBytes : ℕ
@@ -44,14 +44,15 @@ fits end f b = leb (end + length f) (length b) && leb (end + length f) mostBytes
 
 -- f put at offset end, all else unchanged; done gives where it ends
 abbrev pub appended : ℕ → List ℕ → List ℕ → Output
-appended end f b = cond (fits end f b) (output (written.Done (end + length f)) (put b end f)) (output (written.Refused NoRoom 0) b)
+appended end f b =
+    require fits end f b else output (written.Refused NoRoom 0) b then
+    output (written.Done (end + length f)) (put b end f)
 
 -- the frame f put at the record's end, which then is where it ends
 abbrev pub added : Reel → List ℕ → List ℕ → Output
 added r f b =
-    cond (fits (r .end) f b)
-    (made (Done (reel (r .width) (r .height) (r .frames + 1) (r .end + length f) false)) (put b (r .end) f))
-    (made (Refused NoRoom 0) b)
+    require fits (r .end) f b else made (Refused NoRoom 0) b then
+    made (Done (reel (r .width) (r .height) (r .frames + 1) (r .end + length f) false)) (put b (r .end) f)
 
 -- refusal 18: "adding to a closed reel, a frame past 4,000"
 abbrev pub addOk : ℕ → Bool → Bool
@@ -61,12 +62,8 @@ addOk frames closed = cond closed false (ltb frames maxFrames)
 unfoldable pub addFrame : Reel → List ℕ → List ℕ → List ℕ → List ℕ → List ℕ → Output
 unfolding houseFrame
 addFrame r b p q p′ q′ =
-    cond (addOk (r .frames) (r .closed))
-    (cond (sizeOk (r .width) (r .height))
-    (cond (enough (r .width * r .height) p q && enough (r .width * r .height) p′ q′)
-    (cond (endOk (r .end) (length b))
-    (added r (houseFrame (r .width) (r .height) (front (r .width * r .height) p q) (front (r .width * r .height) p′ q′)) b)
-    (made (Refused Cut 0) b))
-    (made (Refused ShortSlice 0) b))
-    (made (Refused BadSize 0) b))
-    (made (Refused WrongTime 0) b)
+    require addOk (r .frames) (r .closed) else made (Refused WrongTime 0) b then
+    require sizeOk (r .width) (r .height) else made (Refused BadSize 0) b then
+    require enough (r .width * r .height) p q && enough (r .width * r .height) p′ q′ else made (Refused ShortSlice 0) b then
+    require endOk (r .end) (length b) else made (Refused Cut 0) b then
+    added r (houseFrame (r .width) (r .height) (front (r .width * r .height) p q) (front (r .width * r .height) p′ q′)) b

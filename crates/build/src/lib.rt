@@ -7,11 +7,11 @@ ghost use Rattle.house.specs.Plans.{Palettes, Pictures};
 ghost use Rattle.answer.specs.Answer.{state};
 ghost use Rattle.house.specs.Writing.{output};
 ghost use Rattle.build.specs.Record.{made};
-ghost use Rattle.build.specs.Header.{aspect, opened};
 ghost use Rattle.build.specs.Building.{openReel, endOk, longest, appended, addOk, addFrame};
 use answer::PALETTE_BYTES;
 use answer::Refusal;
 use answer::Written;
+use chunks::HEADER_BYTES;
 use frame::holds;
 
 // The most bytes of a file: its size field has 32 bits.
@@ -32,37 +32,6 @@ pub enum Built {
     Refused(Refusal, usize),
 }
 
-// One side of the aspect: classic at 320 by 200, else 1.
-fn aspect_of(width: usize, height: usize, classic: usize) -> usize
-    requires { ⌜ classic < 65536 ⌝ }
-    ensures { λ r. ⌜ (r ≡ aspect width height classic) × (r < 65536) ⌝ }
-{
-    if width != 320 {
-        return 1;
-    }
-    if height != 200 {
-        return 1;
-    }
-    classic
-}
-
-// The header of a reel that is not closed yet.
-fn write_header(out: &mut [u8], width: usize, height: usize, speed: usize)
-    requires { ⌜ (length (now out) ≡ 128) × (width < 65536) × (height < 65536) ⌝ }
-    ensures { λ _. ⌜ now (out .exit) ≡ opened width height speed ⌝ }
-{
-    words::fill(out, 0);
-    words::put_u16(out, 4, answer::FLC_MAGIC);
-    words::put_u16(out, 8, width);
-    words::put_u16(out, 10, height);
-    words::put_u16(out, 12, 8);
-    words::put_u32(out, 16, speed);
-    words::put_u32(out, 26, 0x464c4942);
-    words::put_u32(out, 34, 0x464c4942);
-    words::put_u16(out, 38, aspect_of(width, height, 6));
-    words::put_u16(out, 40, aspect_of(width, height, 5));
-}
-
 // Opens a reel at the front of the lent bytes.
 pub fn open_reel(width: usize, height: usize, speed: u32, bytes: &mut [u8]) -> Built
     ensures { λ r. ⌜ made r (now (bytes .exit)) ≡ openReel width height speed (now (bytes .entry)) ⌝ }
@@ -70,15 +39,15 @@ pub fn open_reel(width: usize, height: usize, speed: u32, bytes: &mut [u8]) -> B
     if !answer::size_ok(width, height) {
         return Built::Refused(Refusal::BadSize, 0);
     }
-    if bytes.len() < 128 {
+    if bytes.len() < HEADER_BYTES {
         return Built::Refused(Refusal::NoRoom, 0);
     }
-    write_header(&mut bytes[0..128], width, height, speed as usize);
+    reel_header::write_header(&mut bytes[0..HEADER_BYTES], width, height, speed as usize);
     Built::Done(Reel {
         width,
         height,
         frames: 0,
-        end: 128,
+        end: HEADER_BYTES,
         closed: false,
     })
 }
@@ -87,7 +56,7 @@ pub fn open_reel(width: usize, height: usize, speed: u32, bytes: &mut [u8]) -> B
 pub fn end_ok(end: usize, room: usize) -> bool
     ensures { λ r. ⌜ r ≡ endOk end room ⌝ }
 {
-    if end < 128 {
+    if end < HEADER_BYTES {
         return false;
     }
     end <= room

@@ -16,7 +16,6 @@ use Rattle.words.specs.Writes.{put}
 use Rattle.words.proofs.There.{put-behind, drop-word32}
 use Rattle.answer.specs.Answer.{done, State, blank, sizeOk, maxFrames}
 use Rattle.answer.specs.declared.Refusal.the-variants.{ShortSlice, BadSize, NoRoom, Cut, WrongTime}
-use Rattle.answer.specs.declared.Answer.the-variants as said
 use Rattle.answer.proofs.Laws.{both-true, size-in}
 use Rattle.frame.specs.Reading.{enough}
 use Rattle.house.specs.House.{houseChunks, houseFrame}
@@ -28,15 +27,18 @@ use Rattle.laps.specs.Laps.{lastOf}
 use Rattle.build.specs.declared.Reel.{Reel}
 use Rattle.build.specs.declared.Built.the-variants.{Done, Refused}
 use Rattle.build.specs.Record.{reel, values, toldBuilt, made}
-use Rattle.build.specs.Header.{fileHeader, opened}
-use Rattle.build.specs.Building.{mostBytes, fits, added}
-use Rattle.build.proofs.Laws.{told-built-injective, opened-length}
-use Rattle.close.specs.Closing.{secondAt, closedHeader, ringWritten, Closing, closing, outcomeWith, endedBy, closeFrames, Closed, closed, laid, closeReel}
+use Rattle.chunks.specs.declared.Layout.the-variants.{Packed}
+use Rattle.chunks.specs.Spans.{HEADER-BYTES}
+use Rattle.reel_header.specs.Head.{FINISHED}
+use Rattle.reel_header.specs.Written.{fileHeader, opened, secondAt, closedHeader}
+use Rattle.build.specs.Building.{mostBytes, fits}
+use Rattle.build.proofs.Laws.{told-built-injective}
+use Rattle.close.specs.Closing.{ringWritten, Closing, closing, outcomeWith, endedBy, closeFrames, Closed, closed, laid, closeReel}
 use Rattle.built.specs.Story.{Making, Finished}
-use Rattle.built.proofs.Joined.{blank-sized, joined, each, Whole, all-plays, joined-add, each-first, each-rest, each-last}
-use Rattle.built.proofs.Header.{opened-closed, header-length, header-read}
+use Rattle.built.proofs.Joined.{blank-sized, joined, Whole, all-plays, joined-add, each-first, each-rest, each-last}
+use Rattle.reel_header.proofs.Laws.{opened-length, opened-closed, header-length}
 use Rattle.built.proofs.Making.{Holds, making-holds}
-use Rattle.built.proofs.File.{file-read, file-shows, file-accepted, file-frame-1, file-frame-2}
+use Rattle.built.proofs.File.{file-read, file-speed, file-shows, file-accepted, file-frame-1, file-frame-2}
 
 -- the close
 
@@ -72,14 +74,14 @@ module _ (w h speed : ℕ) (b : List ℕ) (r : Reel) (first : State) (rest : Lis
   own : take end b ≡ opened w h speed ++ asked
   own = ap (take end) bytes-are ∙ take-at (opened w h speed ++ asked) (i .rest) end own-length
 
-  own-plays : Whole w h ok (opened w h speed ++ asked) true first rest
+  own-plays : Whole w h ok (opened w h speed ++ asked) Packed first rest
   own-plays =
-      all-plays w h ok (opened w h speed ++ asked) true (i .each-sized) [] (omega (arith, own-length))
+      all-plays w h ok (opened w h speed ++ asked) Packed (i .each-sized) [] (omega (arith, own-length))
       (drop-at (opened w h speed) asked 128 (opened-length w h speed) ∙ sym (append-nil asked))
 
   -- the close's own playing ends in the last state asked for
-  own-shows : playAll true (suc (length rest) - 1) w h (take end b) ≡ shown (To (own-plays .last) end) shows-last first
-  own-shows = ap₂ (λ (k : ℕ) (x : List ℕ). playAll true k w h x) (sub-one (suc (length rest))) own ∙ own-plays .is
+  own-shows : playAll Packed (suc (length rest) - 1) w h (take end b) ≡ shown (To (own-plays .last) end) shows-last first
+  own-shows = ap₂ (λ (k : ℕ) (x : List ℕ). playAll Packed k w h x) (sub-one (suc (length rest))) own ∙ own-plays .is
 
   inside : end ≤ length b
   inside = omega (arith, own-length, ap length bytes-are, length-append (opened w h speed ++ asked) (i .rest))
@@ -87,7 +89,7 @@ module _ (w h speed : ℕ) (b : List ℕ) (r : Reel) (first : State) (rest : Lis
   frames-close : closeFrames open-reel b ≡ outcomeWith (ringWritten open-reel ring b) shows-last first
   unfolding closeFrames
   frames-close =
-      ap (λ (t : Bool). cond t (endedBy open-reel b (playAll true (suc (length rest) - 1) w h (take end b))) (closing (Refused Cut 0) b (blank n) (blank n)))
+      ap (λ (t : Bool). cond t (endedBy open-reel b (playAll Packed (suc (length rest) - 1) w h (take end b))) (closing (Refused Cut 0) b (blank n) (blank n)))
       (ap₂ (λ (x y : Bool). x && y) (le-leb 128 end (omega arith)) (le-leb end (length b) inside))
       ∙ ap (endedBy open-reel b) own-shows
       ∙ ap (λ (t : Bool). cond t (outcomeWith (ringWritten open-reel ring b) shows-last first) (closing (Refused Cut 0) b shows-last first)) (le-leb end end (omega arith))
@@ -142,7 +144,7 @@ module _ (w h speed : ℕ) (b : List ℕ) (r : Reel) (first : State) (rest : Lis
   size = 128 + length (joined w h (blank (w * h)) (first ∷ (rest ++ (first ∷ []))))
 
   file-is : closedHeader (end + length ring) (suc (length rest)) (secondAt b) (put b end ring)
-      ≡ fileHeader size (suc (length rest)) w h 3 speed 128 second-is ++ (all-asked ++ left)
+      ≡ fileHeader size (suc (length rest)) w h FINISHED speed HEADER-BYTES second-is ++ (all-asked ++ left)
   file-is =
       ap₂ (λ (k : ℕ) (x : List ℕ). closedHeader k (suc (length rest)) (secondAt b) x) size-is ring-put
       ∙ ap (λ (k : ℕ). closedHeader size (suc (length rest)) k (opened w h speed ++ (all-asked ++ left))) second-read
@@ -163,8 +165,9 @@ module _ (w h speed : ℕ) (b : List ℕ) (r : Reel) (first : State) (rest : Lis
       (record {
         record-is = refl;
         second = second-is;
-        header = take-at (fileHeader size (suc (length rest)) w h 3 speed 128 second-is) (all-asked ++ left) 128 (header-length size (suc (length rest)) w h speed 128 second-is);
+        header = take-at (fileHeader size (suc (length rest)) w h FINISHED speed HEADER-BYTES second-is) (all-asked ++ left) 128 (header-length size (suc (length rest)) w h speed 128 second-is);
         header-read = file-read w h speed ok first rest (i .each-sized) second-is left few small;
+        speed-is = file-speed w h speed ok first rest (i .each-sized) second-is left few small;
         oframe1-is = file-frame-1 w h speed ok first rest (i .each-sized) second-is left few small;
         third = third .0;
         oframe2-is = third .1;

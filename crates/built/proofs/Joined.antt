@@ -1,8 +1,8 @@
 -- House frames that lie back to back, each from one state to the next, show just those states.
 use mathlib.Core.Path.{_≡_, refl, sym, ap, ap₂, _∙_}
 use mathlib.Core.List.{List, [], _∷_, _++_, append-assoc, append-nil}
-use mathlib.Core.Bool.{Bool, true, false}
-use Prim.Native.Nat.{ℕ, _+_, _-_, _*_, _≤_}
+use mathlib.Core.Bool.{true}
+use Prim.Native.Nat.{ℕ, suc, _+_, _-_, _*_, _≤_}
 use native.Mathlib.Omega.{arith}
 use native.Mathlib.Nat.{add-sub-cancel-left}
 use lib.ListN.{length, take, drop, length-append, length-drop, length-replicate}
@@ -12,17 +12,21 @@ use Rattle.words.proofs.Bytewise.{bytes-replicate}
 use Rattle.answer.specs.Answer.{State, blank, sizeOk, state}
 use Rattle.answer.specs.declared.Answer.{Answer}
 use Rattle.answer.proofs.Laws.{size-in}
-use Rattle.frame.specs.Frame.{frame, frameHeader}
-use Rattle.frame.specs.declared.FrameHeader.the-variants as whole
+use Rattle.frame.specs.Frame.{frame}
+use Rattle.chunks.specs.Headers.{frameHeader}
+use Rattle.chunks.specs.declared.FrameHeader.the-variants as whole
 use Rattle.house.specs.House.{houseChunks, houseFrame}
 use Rattle.roundtrip.proofs.Frames.{header-before}
 use Rattle.roundtrip.proofs.ReadsBack.{Sized, subs-small, house-reads-back}
-use Rattle.walk.specs.Walk.{stepAt}
-use Rattle.walk.specs.declared.Next.{Next}
-use Rattle.walk.specs.declared.Next.the-variants.{Frame}
-use Rattle.walk.proofs.Laws.{step-there}
-use Rattle.reel.specs.Play.{Played, ran, landed, met, thenOn, oneFrame, frames, shown, going, playAll}
+use Rattle.chunks.specs.declared.Layout.{Layout}
+use Rattle.chunks.specs.declared.Layout.the-variants.{Loose}
+use Rattle.chunks.specs.Spans.{nextAt}
+use Rattle.chunks.specs.declared.Next.{Next}
+use Rattle.chunks.specs.declared.Next.the-variants.{Frame}
+use Rattle.chunks.proofs.Spans.{next-there}
+use Rattle.reel.specs.Play.{Played, ran, landed, met, oneFrame, frames, shown, going, playAll}
 use Rattle.reel.specs.declared.Ran.the-variants.{To}
+use Rattle.reel.proofs.Laws.{frames-none, frames-more}
 use Rattle.laps.specs.Laps.{lastOf, Reads, none, then}
 use Rattle.laps.proofs.Laps.{Long, one-read}
 
@@ -83,18 +87,18 @@ module _ (w h : ℕ) (ok : sizeOk w h ≡ true) where
         let z = size-in w h ok in
         ap frameHeader y ∙ header-before (houseChunks w h s t) (subs-small w h s t (z .0) (z .1) (z .2) (z .3) i j) more
 
-    pub house-step : (packed : Bool) → stepAt packed b at ≡ Frame at (at + length (houseFrame w h s t))
-    house-step packed = step-there packed b at _ _ inside (header-there (drop at b) refl e)
+    pub house-step : (layout : Layout) → nextAt layout b at ≡ Frame at (at + length (houseFrame w h s t))
+    house-step layout = next-there layout b at _ _ (header-there (drop at b) refl e)
 
     part-there : part b at (at + length (houseFrame w h s t)) ≡ houseFrame w h s t
     part-there = ap (λ (n : ℕ). take n (drop at b)) (add-sub-cancel-left at (length (houseFrame w h s t))) ∙ there-take b (houseFrame w h s t) more at (length (houseFrame w h s t)) e refl
 
-    pub house-plays : (packed : Bool) → oneFrame packed w h b at s ≡ ran (To at (at + length (houseFrame w h s t))) t
+    pub house-plays : (layout : Layout) → oneFrame layout w h b at s ≡ ran (To at (at + length (houseFrame w h s t))) t
     unfolding oneFrame
-    house-plays packed =
+    house-plays layout =
         let z = size-in w h ok in
         let back = house-reads-back w h s t (z .0) (z .1) (z .2) (z .3) i j in
-        ap (λ (x : Next). met w h b x s) (house-step packed)
+        ap (λ (x : Next). met w h b x s) (house-step layout)
         ∙ ap (λ (x : List ℕ). landed at (at + length (houseFrame w h s t)) (frame w h x) (frame w h x .answer) s) part-there
         ∙ ap (λ (a : Answer). landed at (at + length (houseFrame w h s t)) (frame w h (houseFrame w h s t)) a s) (back .done)
         ∙ ap₂ (λ (p q : List ℕ). ran (To at (at + length (houseFrame w h s t))) (state p q)) (back .picture) (back .palette)
@@ -124,18 +128,21 @@ module _ (w h : ℕ) (ok : sizeOk w h ≡ true) where
           whole-end = omega (arith, length-append f (joined w h t ts));
         }
 
-    pub joined-plays : (packed : Bool) {ts : List State} → Each w h ts → (s : State) → Sized w h s → (more : List ℕ) (last at : ℕ) → at ≤ length b
-        → drop at b ≡ joined w h s ts ++ more → Ends (frames packed w h b (length ts) last at s) (at + length (joined w h s ts)) (lastOf s ts)
-    unfolding frames joined
-    joined-plays packed no-state s i more last at inside e = record { last = last; is = ap (λ (k : ℕ). ran (To last k) s) (omega arith) }
-    joined-plays packed (each {t} {ts} j rest) s i more last at inside e =
+    pub joined-plays : (layout : Layout) {ts : List State} → Each w h ts → (s : State) → Sized w h s → (more : List ℕ) (last at : ℕ) → at ≤ length b
+        → drop at b ≡ joined w h s ts ++ more → Ends (frames layout w h b (length ts) last at s) (at + length (joined w h s ts)) (lastOf s ts)
+    unfolding joined
+    joined-plays layout no-state s i more last at inside e =
+        record { last = last; is = frames-none layout w h b 0 last at s (omega arith) ∙ ap (λ (k : ℕ). ran (To last k) s) (omega arith) }
+    joined-plays layout (each {t} {ts} j rest) s i more last at inside e =
         let x = first-there s t ts more at inside e in
-        let r = joined-plays packed rest t j more at (at + length (houseFrame w h s t)) (x .inside) (x .others) in
+        let end = at + length (houseFrame w h s t) in
+        let r = joined-plays layout rest t j more at end (x .inside) (x .others) in
+        let n : suc (length ts) - 1 ≡ length ts = omega arith in
         record {
           last = r .last;
           is =
-              ap (λ (p : Played). thenOn (p .result) (p .after) (λ last′ at′ s′. frames packed w h b (length ts) last′ at′ s′))
-              (house-plays s t i j b (joined w h t ts ++ more) at (x .here) inside packed)
+              frames-more layout w h b (suc (length ts)) last at s (omega arith) t at end (house-plays s t i j b (joined w h t ts ++ more) at (x .here) inside layout)
+              ∙ ap (λ (k : ℕ). frames layout w h b k at end t) n
               ∙ r .is ∙ ap (λ (k : ℕ). ran (To (r .last) k) (lastOf t ts)) (x .whole-end);
         }
 
@@ -144,25 +151,25 @@ module _ (w h : ℕ) (ok : sizeOk w h ≡ true) where
     joined-reads no-state s i more at inside e = none
     joined-reads (each {t} {ts} j rest) s i more at inside e =
         let x = first-there s t ts more at inside e in
-        let o = one-read w h ok b at s (long-sized s i) at (at + length (houseFrame w h s t)) t (house-plays s t i j b (joined w h t ts ++ more) at (x .here) inside false) in
+        let o = one-read w h ok b at s (long-sized s i) at (at + length (houseFrame w h s t)) t (house-plays s t i j b (joined w h t ts ++ more) at (x .here) inside Loose) in
         then at (at + length (houseFrame w h s t)) t (o .step) (o .read) (joined-reads rest t j more (at + length (houseFrame w h s t)) (x .inside) (x .others))
 
     -- frame 1 from blank, at offset 128, and the rest
-    pub record Whole (packed : Bool) (first : State) (rest : List State) : Type 0 where
+    pub record Whole (layout : Layout) (first : State) (rest : List State) : Type 0 where
       pub last : ℕ
-      pub is : playAll packed (length rest) w h b ≡ shown (To last (128 + length (joined w h (blank (w * h)) (first ∷ rest)))) (lastOf first rest) first
+      pub is : playAll layout (length rest) w h b ≡ shown (To last (128 + length (joined w h (blank (w * h)) (first ∷ rest)))) (lastOf first rest) first
 
-    pub all-plays : (packed : Bool) {first : State} {rest : List State} → Each w h (first ∷ rest) → (more : List ℕ) → 128 ≤ length b
-        → drop 128 b ≡ joined w h (blank (w * h)) (first ∷ rest) ++ more → Whole packed first rest
+    pub all-plays : (layout : Layout) {first : State} {rest : List State} → Each w h (first ∷ rest) → (more : List ℕ) → 128 ≤ length b
+        → drop 128 b ≡ joined w h (blank (w * h)) (first ∷ rest) ++ more → Whole layout first rest
     unfolding playAll
-    all-plays packed (each {t} {ts} j others) more inside e =
+    all-plays layout (each {t} {ts} j others) more inside e =
         let o = blank (w * h) in
         let x = first-there o t ts more 128 inside e in
-        let r = joined-plays packed others t j more 128 (128 + length (houseFrame w h o t)) (x .inside) (x .others) in
+        let r = joined-plays layout others t j more 128 (128 + length (houseFrame w h o t)) (x .inside) (x .others) in
         record {
           last = r .last;
           is =
-              ap (λ (p : Played). going p (λ last at s. frames packed w h b (length ts) last at s)) (house-plays o t blank-sized j b (joined w h t ts ++ more) 128 (x .here) inside packed)
+              ap (λ (p : Played). going p (λ last at s. frames layout w h b (length ts) last at s)) (house-plays o t blank-sized j b (joined w h t ts ++ more) 128 (x .here) inside layout)
               ∙ ap (λ (p : Played). shown (p .result) (p .after) t) (r .is)
               ∙ ap (λ (k : ℕ). shown (To (r .last) k) (lastOf t ts) t) (x .whole-end);
         }

@@ -2,7 +2,7 @@
 use mathlib.Core.Path.{_≡_, refl, sym, ap, _∙_}
 use mathlib.Core.List.{List, [], _++_, append-assoc}
 use mathlib.Core.Logic.{_⊎_, inl, inr}
-use mathlib.Core.Bool.{Bool, true, false, _&&_, cond}
+use mathlib.Core.Bool.{Bool, _&&_, cond}
 use Prim.Native.Nat.{ℕ, _+_, _*_, _-_, _≤_, _<_}
 use native.Mathlib.Omega.{arith}
 use borrow.Author.Tests.{leb-true}
@@ -13,7 +13,7 @@ use Rattle.words.specs.Words.{le16, le32}
 use Rattle.words.specs.Writes.{put}
 use Rattle.words.proofs.Laws.{length-put}
 use Rattle.words.proofs.Tests.{cond-holds}
-use Rattle.answer.specs.Answer.{Said, done, refused, State, blank, sizeOk}
+use Rattle.answer.specs.Answer.{Said, done, refused, State, sizeOk}
 use Rattle.answer.specs.declared.Refusal.{Refusal}
 use Rattle.answer.specs.declared.Refusal.the-variants.{ShortSlice, BadSize, NoRoom, Cut, WrongTime}
 use Rattle.answer.proofs.Laws.{both-true}
@@ -24,10 +24,14 @@ use Rattle.reel.specs.Play.{playAll}
 use Rattle.reel.specs.declared.Ran.{Ran}
 use Rattle.reel.specs.declared.Ran.the-variants.{Stopped, To}
 use Rattle.build.specs.declared.Reel.{Reel}
-use Rattle.build.specs.declared.Built.the-variants.{Done, Refused}
-use Rattle.build.specs.Record.{reel, made}
+use Rattle.build.specs.declared.Built.the-variants.{Refused}
+use Rattle.build.specs.Record.{made}
 use Rattle.build.specs.Building.{endOk, mostBytes, fits, addOk, addFrame}
-use Rattle.close.specs.Closing.{secondAt, closedHeader, Closing, closing, ended, endedBy, closeFrames, Closed, closed, closeOk, closeReel}
+use Rattle.close.specs.Closing.{Closing, ended, closeFrames, Closed, closed, closeOk, closeReel, ringWritten}
+use Rattle.chunks.specs.declared.Layout.the-variants.{Packed}
+use Rattle.chunks.specs.Spans.{HEADER-BYTES}
+use Rattle.chunks.proofs.Headers.{required}
+use Rattle.reel_header.specs.Written.{secondAt, closedHeader}
 use Rattle.built.specs.Story.{Other}
 
 -- a byte outside of what is stored
@@ -73,7 +77,7 @@ module _ (r : Reel) (b p q p′ q′ : List ℕ) (number place : ℕ) where
       (by (sizeOk (r .width) (r .height)) _ BadSize
       (by (enough (r .width * r .height) p q && enough (r .width * r .height) p′ q′) _ ShortSlice
       (cond-holds (λ (c : Closing). KeptBy (c .said) (c .bytes)) (endOk (r .end) (length b)) _ _
-      (by-play (playAll true (r .frames - 1) (r .width) (r .height) (take (r .end) b) .result) (playAll true (r .frames - 1) (r .width) (r .height) (take (r .end) b) .last) (playAll true (r .frames - 1) (r .width) (r .height) (take (r .end) b) .one))
+      (by-play (playAll Packed (r .frames - 1) (r .width) (r .height) (take (r .end) b) .result) (playAll Packed (r .frames - 1) (r .width) (r .height) (take (r .end) b) .last) (playAll Packed (r .frames - 1) (r .width) (r .height) (take (r .end) b) .one))
       (λ d. refl))))
     where
       by : (c : Bool) (x : Closed) (e : Refusal) → KeptBy (x .said) (x .bytes) → KeptBy (cond c x (closed (Refused e 0) b p q p′ q′) .said) (cond c x (closed (Refused e 0) b p q p′ q′) .bytes)
@@ -115,27 +119,26 @@ module _ (i : ℕ) (o : Other i) where
   close-keeps r b p q p′ q′ =
       by (closeOk (r .frames) (r .closed)) _ WrongTime
       (by (sizeOk (r .width) (r .height)) _ BadSize
-      (by (enough (r .width * r .height) p q && enough (r .width * r .height) p′ q′) _ ShortSlice (by-record (endOk (r .end) (length b)) refl)))
+      (by (enough (r .width * r .height) p q && enough (r .width * r .height) p′ q′) _ ShortSlice by-record))
     where
       by : (c : Bool) (x : Closed) (e : Refusal) → getD (x .bytes) i 0 ≡ getD b i 0 → getD (cond c x (closed (Refused e 0) b p q p′ q′) .bytes) i 0 ≡ getD b i 0
       by c x e k = cond-holds (λ (y : Closed). getD (y .bytes) i 0 ≡ getD b i 0) c x (closed (Refused e 0) b p q p′ q′) k refl
 
-      by-fit : (f : List ℕ) (t : Bool) → fits (r .end) f b ≡ t → 128 ≤ r .end
-          → getD (cond t (made (Done (reel (r .width) (r .height) (r .frames) (r .end + length f) true)) (closedHeader (r .end + length f) (r .frames) (secondAt b) (put b (r .end) f))) (made (Refused NoRoom 0) b) .bytes) i 0 ≡ getD b i 0
-      by-fit f false e h = refl
-      by-fit f true e h =
+      by-fit : (f : List ℕ) → HEADER-BYTES ≤ r .end → getD (ringWritten r f b .bytes) i 0 ≡ getD b i 0
+      by-fit f h =
+          required (λ (y : Output). getD (y .bytes) i 0 ≡ getD b i 0) (fits (r .end) f b) _ _ refl
+          (λ e.
           let room = leb-true (r .end + length f) (length b) (both-true (leb (r .end + length f) (length b)) (leb (r .end + length f) mostBytes) e .0) in
           header-keeps (put b (r .end) f) (r .end + length f) (r .frames) (secondAt b) (omega (arith, length-put b (r .end) f room))
-          ∙ put-other b f (r .end) i room (inl (omega (arith, o .in-header)))
+          ∙ put-other b f (r .end) i room (inl (omega (arith, o .in-header))))
 
-      by-play : (x : Ran) (s t : State) → 128 ≤ r .end → getD (ended r b x s t .bytes) i 0 ≡ getD b i 0
+      by-play : (x : Ran) (s t : State) → HEADER-BYTES ≤ r .end → getD (ended r b x s t .bytes) i 0 ≡ getD b i 0
       by-play (Stopped e at) s t h = refl
       by-play (To last next) s t h =
-          cond-holds (λ (c : Closing). getD (c .bytes) i 0 ≡ getD b i 0) (leb (r .end) next) _ _ (by-fit (houseFrame (r .width) (r .height) s t) (fits (r .end) (houseFrame (r .width) (r .height) s t) b) refl h) refl
+          cond-holds (λ (c : Closing). getD (c .bytes) i 0 ≡ getD b i 0) (leb (r .end) next) _ _ (by-fit (houseFrame (r .width) (r .height) s t) h) refl
 
-      by-record : (t : Bool) → endOk (r .end) (length b) ≡ t
-          → getD (cond t (endedBy r b (playAll true (r .frames - 1) (r .width) (r .height) (take (r .end) b))) (closing (Refused Cut 0) b (blank (r .width * r .height)) (blank (r .width * r .height))) .bytes) i 0 ≡ getD b i 0
-      by-record false e = refl
-      by-record true e =
-          let x = playAll true (r .frames - 1) (r .width) (r .height) (take (r .end) b) in
-          by-play (x .result) (x .last) (x .one) (leb-true 128 (r .end) (both-true (leb 128 (r .end)) (leb (r .end) (length b)) e .0))
+      by-record : getD (closeFrames r b .bytes) i 0 ≡ getD b i 0
+      by-record =
+          let x = playAll Packed (r .frames - 1) (r .width) (r .height) (take (r .end) b) in
+          required (λ (c : Closing). getD (c .bytes) i 0 ≡ getD b i 0) (endOk (r .end) (length b)) _ _ refl
+          (λ e. by-play (x .result) (x .last) (x .one) (leb-true HEADER-BYTES (r .end) (both-true (leb HEADER-BYTES (r .end)) (leb (r .end) (length b)) e .0)))

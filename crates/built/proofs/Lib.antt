@@ -1,5 +1,4 @@
 pub mod Joined
-pub mod Header
 pub mod Kept
 pub mod Making
 pub mod File

@@ -13,10 +13,9 @@ use Rattle.words.specs.Words.{Bytes}
 use Rattle.words.specs.Writes.{put}
 use Rattle.words.proofs.Laws.{put-front, bytes-take}
 use Rattle.words.proofs.There.{put-behind}
-use Rattle.answer.specs.Answer.{refused, State, blank, sizeOk, maxFrames}
+use Rattle.answer.specs.Answer.{State, blank, sizeOk, maxFrames}
 use Rattle.answer.specs.declared.Refusal.{Refusal}
 use Rattle.answer.specs.declared.Refusal.the-variants.{ShortSlice, BadSize, NoRoom, Cut, WrongTime}
-use Rattle.answer.specs.declared.Answer.the-variants as said
 use Rattle.answer.proofs.Laws.{both-true}
 use Rattle.frame.specs.Reading.{front, enough}
 use Rattle.frame.proofs.Laws.{enough-in}
@@ -26,12 +25,13 @@ use Rattle.laps.specs.Laps.{lastOf}
 use Rattle.build.specs.declared.Reel.{Reel}
 use Rattle.build.specs.declared.Built.the-variants.{Done, Refused}
 use Rattle.build.specs.Record.{reel, made}
-use Rattle.build.specs.Header.{opened}
+use Rattle.reel_header.specs.Written.{opened}
 use Rattle.build.specs.Building.{openReel, endOk, fits, addFrame}
-use Rattle.build.proofs.Laws.{told-built-injective, opened-length}
+use Rattle.build.proofs.Laws.{told-built-injective}
+use Rattle.reel_header.proofs.Laws.{opened-length}
 use Rattle.built.specs.Story.{Making, opening, adding, refusing}
 use Rattle.built.proofs.Kept.{add-refused}
-use Rattle.built.proofs.Joined.{joined, Each, no-state, each, joined-add, each-add}
+use Rattle.built.proofs.Joined.{joined, Each, no-state, joined-add, each-add}
 
 -- what an accepted call has passed
 

@@ -5,19 +5,20 @@ use mathlib.Core.Bool.{true}
 use mathlib.Core.Path.{_≡_}
 use mathlib.Core.Logic.{_⊎_}
 use lib.ListN.{length, take}
-use Rattle.words.specs.Words.{Bytes}
+use Rattle.words.specs.Words.{u32At, Bytes}
 use Rattle.answer.specs.Answer.{done, refused, State, blank}
 use Rattle.frame.specs.Reading.{front, enough}
-use Rattle.walk.specs.Head.{headOf}
-use Rattle.walk.specs.Walk.{nextAt}
-use Rattle.walk.specs.declared.Head.the-variants as head
-use Rattle.walk.specs.declared.Next.the-variants.{Frame}
+use Rattle.reel_header.specs.Head.{SPEED-AT, FINISHED, headOf}
+use Rattle.chunks.specs.declared.Layout.the-variants.{Loose}
+use Rattle.chunks.specs.Spans.{HEADER-BYTES, nextAt}
+use Rattle.reel_header.specs.declared.Head.the-variants as head
+use Rattle.chunks.specs.declared.Next.the-variants.{Frame}
 use Rattle.reel.specs.Check.{checkReel}
 use Rattle.laps.specs.Laps.{lastOf, Reads}
 use Rattle.build.specs.declared.Reel.{Reel}
 use Rattle.build.specs.declared.Built.the-variants.{Done}
 use Rattle.build.specs.Record.{reel, made}
-use Rattle.build.specs.Header.{fileHeader}
+use Rattle.reel_header.specs.Written.{fileHeader}
 use Rattle.build.specs.Building.{openReel, addFrame}
 
 module _ (w h speed : ℕ) where
@@ -38,20 +39,22 @@ module _ (w h speed : ℕ) where
     pub record-is : r ≡ reel w h (suc (length rest)) (r .end) true
     -- the header, field by field
     pub second : ℕ
-    pub header : take 128 b ≡ fileHeader (r .end) (suc (length rest)) w h 3 speed 128 second
-    pub header-read : headOf b ≡ head.Reel w h (suc (length rest)) (r .end)
+    pub header : take HEADER-BYTES b ≡ fileHeader (r .end) (suc (length rest)) w h FINISHED speed HEADER-BYTES second
+    pub header-read : headOf b ≡ head.Reel w h (suc (length rest)) (r .end) (u32At b SPEED-AT)
+    -- "Speed is the caller's", a number of 32 bits
+    pub speed-is : speed < 4294967296 → u32At b SPEED-AT ≡ speed
     -- "oframe1 128, oframe2 the second frame chunk (the ring, if there is one frame)"
-    pub oframe1-is : nextAt (take (r .end) b) 128 ≡ Frame 128 second
+    pub oframe1-is : nextAt Loose (take (r .end) b) HEADER-BYTES ≡ Frame HEADER-BYTES second
     pub third : ℕ
-    pub oframe2-is : nextAt (take (r .end) b) second ≡ Frame second third
+    pub oframe2-is : nextAt Loose (take (r .end) b) second ≡ Frame second third
     -- "The closed reel shows every state asked for", and its ring the first of them
-    pub shows : Reads w h (take (r .end) b) 128 (blank (w * h)) (first ∷ (rest ++ (first ∷ [])))
+    pub shows : Reads w h (take (r .end) b) HEADER-BYTES (blank (w * h)) (first ∷ (rest ++ (first ∷ [])))
     -- the check of the whole reel accepts it
     pub accepted : (p q p′ q′ : List ℕ) → enough (w * h) p q ≡ true → enough (w * h) p′ q′ ≡ true → checkReel b p q p′ q′ .said ≡ done []
 
 -- a byte of the header that lies in none of the fields that a close sets: size, frames, flags, both oframes
 pub record Other (i : ℕ) : Type 0 where
-  pub in-header : i < 128
+  pub in-header : i < HEADER-BYTES
   pub not-size : 4 ≤ i
   pub not-frames : (i < 6) ⊎ (8 ≤ i)
   pub not-flags : (i < 14) ⊎ (16 ≤ i)

@@ -5,7 +5,7 @@ use mathlib.Core.List.{List, [], _∷_}
 use mathlib.Core.Bool.{not}
 use lib.Dec.{eqb}
 use lib.ListN.{getD}
-use Rattle.answer.specs.Answer.{Said, done, refused}
+use Rattle.answer.specs.Answer.{Said, done, refused, number}
 use Rattle.frame.specs.Reading.{Outcome}
 use Rattle.house.specs.Writing.{Output}
 use Rattle.rewrite.specs.Rewriting.{Rewritten}
@@ -13,7 +13,13 @@ use Rattle.reel.specs.Check.{Checked}
 use Rattle.build.specs.declared.Reel.{Reel}
 use Rattle.build.specs.Record.{reel}
 use Rattle.close.specs.Closing.{Closed}
+use Rattle.chunks.specs.declared.Next.{Next}
+use Rattle.chunks.specs.declared.Next.the-variants as next
+use Rattle.reel_header.specs.declared.Head.{Head}
+use Rattle.reel_header.specs.declared.Head.the-variants as head
 use Rattle.capi.specs.declared.Record.{Record}
+use Rattle.capi.specs.declared.ReelHeader.{ReelHeader}
+use Rattle.capi.specs.declared.FrameSpan.{FrameSpan}
 
 -- the refusal's number, 0 for done
 abbrev pub numberOf : Said → ℕ
@@ -92,3 +98,14 @@ pub record ClosedReel (number place : ℕ) (after : Record) (b p q p′ q′ : L
   pub palette1-is : q ≡ o .palette1
   pub picture2-is : p′ ≡ o .picture2
   pub palette2-is : q′ ≡ o .palette2
+
+-- a reel's header: its fields, or the refusal with place 0 and all fields 0
+abbrev pub headerFor : Head → ReelHeader
+headerFor (head.Fault e) = record { number = number e; place = 0; width = 0; height = 0; frames = 0; size = 0; speed = 0 }
+headerFor (head.Reel width height frames size speed) =
+    record { number = 0; place = 0; width = width; height = height; frames = frames; size = size; speed = speed }
+
+-- where the next frame begins and ends, or the refusal with its place and both 0
+abbrev pub spanFor : Next → FrameSpan
+spanFor (next.Fault e place) = record { number = number e; place = place; from = 0; end = 0 }
+spanFor (next.Frame from end) = record { number = 0; place = 0; from = from; end = end }

@@ -10,9 +10,14 @@ ghost use Rattle.build.specs.Building.{openReel, addFrame};
 ghost use Rattle.close.specs.Closing.{closeReel};
 ghost use Rattle.trailer.specs.Trailer.{checkTrailer, writeTrailer};
 ghost use Rattle.listing.specs.Listing.{list};
-ghost use Rattle.capi.specs.Capi.{lengthOf, nothing, reelOf, recordOf, Told, Read, Wrote, Rewrote, CheckedReel, BuiltReel, ClosedReel};
+ghost use Rattle.chunks.specs.declared.Layout.the-variants.{Loose};
+ghost use Rattle.chunks.specs.Spans.{nextAt};
+ghost use Rattle.reel_header.specs.Head.{headOf};
+ghost use Rattle.capi.specs.Capi.{headerFor, spanFor, lengthOf, nothing, reelOf, recordOf, Told, Read, Wrote, Rewrote, CheckedReel, BuiltReel, ClosedReel};
 use build::Built;
 use build::Reel;
+use chunks::Next;
+use reel_header::Head;
 
 // Number 0: done. Otherwise the refusal's number and place.
 #[repr(C)]
@@ -45,6 +50,27 @@ pub struct Delivered {
     pub number: u32,
     pub place: u64,
     pub length: u64,
+}
+
+// A reel's header: all fields are 0 where refused.
+#[repr(C)]
+pub struct ReelHeader {
+    pub number: u32,
+    pub place: u64,
+    pub width: u64,
+    pub height: u64,
+    pub frames: u64,
+    pub size: u64,
+    pub speed: u32,
+}
+
+// Where a frame begins and ends: both 0 where refused.
+#[repr(C)]
+pub struct FrameSpan {
+    pub number: u32,
+    pub place: u64,
+    pub from: u64,
+    pub end: u64,
 }
 
 fn answer_for_c(a: answer::Answer) -> Answered
@@ -308,4 +334,58 @@ pub extern "C" fn flic_list(bytes: &[u8], out: &mut [u8]) -> Delivered
 {
     let a = listing::list_into(bytes, out);
     written_for_c(a)
+}
+
+// Reads the header of a reel.
+#[no_mangle]
+pub extern "C" fn flic_read_header(bytes: &[u8]) -> ReelHeader
+    ensures { λ r. ⌜ r ≡ headerFor (headOf (now (bytes .entry))) ⌝ }
+{
+    match reel_header::head_of(bytes) {
+        Head::Fault(e) => ReelHeader {
+            number: answer::number_of(e),
+            place: 0,
+            width: 0,
+            height: 0,
+            frames: 0,
+            size: 0,
+            speed: 0,
+        },
+        Head::Reel {
+            width,
+            height,
+            frames,
+            size,
+            speed,
+        } => ReelHeader {
+            number: 0,
+            place: 0,
+            width: width as u64,
+            height: height as u64,
+            frames: frames as u64,
+            size: size as u64,
+            speed,
+        },
+    }
+}
+
+// Finds the next frame of a reel from an offset on; bytes: the reel up to its size.
+#[no_mangle]
+pub extern "C" fn flic_next_frame(bytes: &[u8], at: usize) -> FrameSpan
+    ensures { λ r. ⌜ r ≡ spanFor (nextAt Loose (now (bytes .entry)) at) ⌝ }
+{
+    match chunks::next_at(bytes, at) {
+        Next::Fault(e, place) => FrameSpan {
+            number: answer::number_of(e),
+            place: place as u64,
+            from: 0,
+            end: 0,
+        },
+        Next::Frame { from, end } => FrameSpan {
+            number: 0,
+            place: 0,
+            from: from as u64,
+            end: end as u64,
+        },
+    }
 }

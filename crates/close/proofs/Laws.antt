@@ -1,13 +1,12 @@
--- Laws of closing a reel: the header, the ring, the close's own playing, and the order of the checks.
+-- Laws of closing a reel: the ring, the close's own playing, and the order of the checks.
 use mathlib.Core.Path.{_≡_, refl, sym, ap, ap₂, _∙_}
-use mathlib.Core.List.{List, [], _++_}
+use mathlib.Core.List.{List, _++_}
 use mathlib.Core.Bool.{Bool, true, false, cond}
 use Prim.Native.Nat.{ℕ, _+_, _-_, _*_, _≤_, _<_}
 use native.Mathlib.Omega.{arith}
 use borrow.Author.Tests.{le-leb, lt-leb, leb-true}
 use lib.Dec.{leb}
 use lib.ListN.{length, take, drop}
-use Rattle.words.specs.Words.{u32At, le16, le32}
 use Rattle.words.specs.Writes.{put}
 use Rattle.answer.specs.Answer.{Said, State, blank, sizeOk, maxFrames, state}
 use Rattle.answer.proofs.Laws.{both-true}
@@ -21,26 +20,16 @@ use Rattle.reel.specs.Play.{ran, oneFrame, Shown, shown, playAll}
 use Rattle.reel.specs.declared.Ran.{Ran}
 use Rattle.reel.specs.declared.Ran.the-variants.{Stopped, To}
 use Rattle.reel.proofs.Laws.{one-in, all-stopped}
+use Rattle.chunks.specs.declared.Layout.{Layout}
+use Rattle.chunks.specs.declared.Layout.the-variants.{Packed}
 use Rattle.build.specs.declared.Reel.{Reel}
 use Rattle.build.specs.declared.Built.{Built}
 use Rattle.build.specs.declared.Built.the-variants.{Done, Refused}
 use Rattle.build.specs.Record.{reel, made}
 use Rattle.build.specs.Building.{endOk, appended}
 use Rattle.build.proofs.Laws.{append-done, append-refused}
-use Rattle.close.specs.Closing.{secondAt, closedHeader, ringWritten, Closing, closing, outcomeWith, ended, endedBy, closeFrames, closed, laid, closeOk, closeReel}
-
--- the header
-
--- its fields, each stored in what stood before
-pub header-stored : (size frames second : ℕ) (d d₁ d₂ d₃ d₄ d₅ : List ℕ) → d₁ ≡ put d 0 (le32 size []) → d₂ ≡ put d₁ 6 (le16 frames [])
-    → d₃ ≡ put d₂ 14 (le16 3 []) → d₄ ≡ put d₃ 80 (le32 128 []) → d₅ ≡ put d₄ 84 (le32 second []) → d₅ ≡ closedHeader size frames second d
-unfolding closedHeader
-header-stored size frames second d d₁ d₂ d₃ d₄ d₅ e₁ e₂ e₃ e₄ e₅ = rw (e₅, e₄, e₃, e₂, e₁)
-
--- where frame 1 ends; x: its size field
-pub second-is : (b : List ℕ) (x : ℕ) → x ≡ u32At b 128 → 128 + x ≡ secondAt b
-unfolding secondAt
-second-is b x e = ap (λ (n : ℕ). 128 + n) e
+use Rattle.close.specs.Closing.{ringWritten, Closing, closing, outcomeWith, ended, endedBy, closeFrames, closed, laid, closeOk, closeReel}
+use Rattle.reel_header.specs.Written.{secondAt, closedHeader}
 
 -- the ring
 
@@ -69,15 +58,15 @@ module _ (r : Reel) (f b x : List ℕ) where
 -- the close's own playing
 
 -- playing that came to its end has met frame 1
-pub all-long : (packed : Bool) (more w h : ℕ) (b : List ℕ) (last next : ℕ) → 128 ≤ length b → playAll packed more w h b .result ≡ To last next → 144 ≤ length b
-all-long packed more w h b last next long e = by (oneFrame packed w h b 128 (blank (w * h)) .result) refl
+pub all-long : (layout : Layout) (more w h : ℕ) (b : List ℕ) (last next : ℕ) → 128 ≤ length b → playAll layout more w h b .result ≡ To last next → 144 ≤ length b
+all-long layout more w h b last next long e = by (oneFrame layout w h b 128 (blank (w * h)) .result) refl
   where
-    by : (x : Ran) → oneFrame packed w h b 128 (blank (w * h)) .result ≡ x → 144 ≤ length b
+    by : (x : Ran) → oneFrame layout w h b 128 (blank (w * h)) .result ≡ x → 144 ≤ length b
     by (Stopped f place) q =
         let s = ap (λ (y : Shown). y .result)
-        (all-stopped packed more w h b (oneFrame packed w h b 128 (blank (w * h)) .after) f place (ap (λ (y : Ran). ran y (oneFrame packed w h b 128 (blank (w * h)) .after)) q)) in
+        (all-stopped layout more w h b (oneFrame layout w h b 128 (blank (w * h)) .after) f place (ap (λ (y : Ran). ran y (oneFrame layout w h b 128 (blank (w * h)) .after)) q)) in
         let z : _≡_ {A = ℕ} 0 1 = cc in absurd (omega arith)
-    by (To from end) q = let i = one-in packed w h b 128 (blank (w * h)) long (To from end) q in omega (arith, i .0, i .1, i .2)
+    by (To from end) q = let i = one-in layout w h b 128 (blank (w * h)) long (To from end) q in omega (arith, i .0, i .1, i .2)
 
 module _ (r : Reel) (b : List ℕ) where
   pub frames-record : endOk (r .end) (length b) ≡ false → closeFrames r b ≡ closing (Refused Cut 0) b (blank (r .width * r .height)) (blank (r .width * r .height))
@@ -86,12 +75,12 @@ module _ (r : Reel) (b : List ℕ) where
 
   -- x: what the playing came to, and the states of both pairs; m, k: the part that is played, and how many frames follow the first
   module _ (e : endOk (r .end) (length b) ≡ true) (x : Ran) (s t : State) (m k : ℕ) (em : m ≡ r .end) (ek : k ≡ r .frames - 1)
-      (o : shown x s t ≡ playAll true k (r .width) (r .height) (take m b)) where
+      (o : shown x s t ≡ playAll Packed k (r .width) (r .height) (take m b)) where
     frames-played : (y : Ran) → x ≡ y → closeFrames r b ≡ ended r b y s t
     unfolding closeFrames
     frames-played y q =
         rw e
-        (sym (ap₂ (λ (i j : ℕ). endedBy r b (playAll true i (r .width) (r .height) (take j b))) ek em) ∙ ap (endedBy r b) (sym o) ∙ ap (λ (z : Ran). ended r b z s t) q)
+        (sym (ap₂ (λ (i j : ℕ). endedBy r b (playAll Packed i (r .width) (r .height) (take j b))) ek em) ∙ ap (endedBy r b) (sym o) ∙ ap (λ (z : Ran). ended r b z s t) q)
 
     pub frames-stopped : (f : Refusal) (place : ℕ) → x ≡ Stopped f place → closing (Refused f place) b s t ≡ closeFrames r b
     frames-stopped f place q = sym (frames-played (Stopped f place) q)

@@ -1,17 +1,18 @@
 -- Closing a reel: the answer, and what the lent bytes and both working pairs hold afterwards.
 use Prim.Native.Nat.{ℕ, _+_, _*_, _-_}
-use mathlib.Core.List.{List, [], _++_}
+use mathlib.Core.List.{List, _++_}
 use mathlib.Core.Bool.{Bool, true, false, _&&_, cond}
 use lib.Dec.{leb}
 use lib.ListN.{length, take, drop}
-use Rattle.words.specs.Words.{u32At, le16, le32}
+use Rattle.words.specs.Words.{require_else_then_}
 use Rattle.words.specs.Writes.{put}
 use Rattle.answer.specs.Answer.{Said, State, blank, sizeOk, maxFrames}
 use Rattle.answer.specs.declared.Refusal.the-variants.{ShortSlice, BadSize, NoRoom, Cut, WrongTime}
 use Rattle.frame.specs.Reading.{enough}
 use Rattle.house.specs.House.{houseFrame}
 use Rattle.house.specs.Writing.{Output}
-use Rattle.walk.specs.Head.{SIZE-AT, FRAMES-AT, FLAGS-AT}
+use Rattle.reel_header.specs.Written.{secondAt, closedHeader}
+use Rattle.chunks.specs.declared.Layout.the-variants.{Packed}
 use Rattle.reel.specs.Play.{Shown, playAll}
 use Rattle.reel.specs.declared.Ran.{Ran}
 use Rattle.reel.specs.declared.Ran.the-variants.{Stopped, To}
@@ -21,30 +22,11 @@ use Rattle.build.specs.declared.Built.the-variants.{Done, Refused}
 use Rattle.build.specs.Record.{reel, toldBuilt, made}
 use Rattle.build.specs.Building.{endOk, fits}
 
--- where document 001's table has the two fields that only a close sets
-abbrev pub OFRAME1-AT : ℕ
-OFRAME1-AT = 80
-
-abbrev pub OFRAME2-AT : ℕ
-OFRAME2-AT = 84
-
--- "oframe1 128, oframe2 the second frame chunk (the ring, if there is one frame)": where frame 1 ends, by its size field
-unfoldable pub secondAt : List ℕ → ℕ
-secondAt b = 128 + u32At b 128
-
--- "Size, frames, flags and both oframes are 0 until the close, which sets no other header byte"; "flags 3 at the close"
-unfoldable pub closedHeader : ℕ → ℕ → ℕ → List ℕ → List ℕ
-closedHeader size frames second b =
-    put
-    (put (put (put (put b SIZE-AT (le32 size [])) FRAMES-AT (le16 frames [])) FLAGS-AT (le16 3 [])) OFRAME1-AT (le32 128 []))
-    OFRAME2-AT (le32 second [])
-
 -- the ring f put at the record's end and the header closed, or refusal 3
 abbrev pub ringWritten : Reel → List ℕ → List ℕ → Output
 ringWritten r f b =
-    cond (fits (r .end) f b)
-    (made (Done (reel (r .width) (r .height) (r .frames) (r .end + length f) true)) (closedHeader (r .end + length f) (r .frames) (secondAt b) (put b (r .end) f)))
-    (made (Refused NoRoom 0) b)
+    require fits (r .end) f b else made (Refused NoRoom 0) b then
+    made (Done (reel (r .width) (r .height) (r .frames) (r .end + length f) true)) (closedHeader (r .end + length f) (r .frames) (secondAt b) (put b (r .end) f))
 
 -- what the answer says, the lent bytes, and the states at the front of the two pairs
 pub record Closing : Type 0 where
@@ -63,7 +45,8 @@ outcomeWith o s t = record { said = o .said; bytes = o .bytes; last = s; one = t
 abbrev pub ended : Reel → List ℕ → Ran → State → State → Closing
 ended r b (Stopped e place) s t = closing (Refused e place) b s t
 ended r b (To last next) s t =
-    cond (leb (r .end) next) (outcomeWith (ringWritten r (houseFrame (r .width) (r .height) s t) b) s t) (closing (Refused Cut 0) b s t)
+    require leb (r .end) next else closing (Refused Cut 0) b s t then
+    outcomeWith (ringWritten r (houseFrame (r .width) (r .height) s t) b) s t
 
 abbrev pub endedBy : Reel → List ℕ → Shown → Closing
 endedBy r b x = ended r b (x .result) (x .last) (x .one)
@@ -73,9 +56,8 @@ endedBy r b x = ended r b (x .result) (x .last) (x .one)
 unfoldable pub closeFrames : Reel → List ℕ → Closing
 unfolding closedHeader secondAt houseFrame playAll
 closeFrames r b =
-    cond (endOk (r .end) (length b))
-    (endedBy r b (playAll true (r .frames - 1) (r .width) (r .height) (take (r .end) b)))
-    (closing (Refused Cut 0) b (blank (r .width * r .height)) (blank (r .width * r .height)))
+    require endOk (r .end) (length b) else closing (Refused Cut 0) b (blank (r .width * r .height)) (blank (r .width * r .height)) then
+    endedBy r b (playAll Packed (r .frames - 1) (r .width) (r .height) (take (r .end) b))
 
 -- what the answer says, and what the lent bytes and the two pairs hold afterwards
 pub record Closed : Type 0 where
@@ -109,10 +91,7 @@ closeOk frames closed = cond closed false (leb 1 frames && leb frames maxFrames)
 unfoldable pub closeReel : Reel → List ℕ → List ℕ → List ℕ → List ℕ → List ℕ → Closed
 unfolding closeFrames
 closeReel r b p q p′ q′ =
-    cond (closeOk (r .frames) (r .closed))
-    (cond (sizeOk (r .width) (r .height))
-    (cond (enough (r .width * r .height) p q && enough (r .width * r .height) p′ q′)
-    (laid (r .width * r .height) (closeFrames r b) p q p′ q′)
-    (closed (Refused ShortSlice 0) b p q p′ q′))
-    (closed (Refused BadSize 0) b p q p′ q′))
-    (closed (Refused WrongTime 0) b p q p′ q′)
+    require closeOk (r .frames) (r .closed) else closed (Refused WrongTime 0) b p q p′ q′ then
+    require sizeOk (r .width) (r .height) else closed (Refused BadSize 0) b p q p′ q′ then
+    require enough (r .width * r .height) p q && enough (r .width * r .height) p′ q′ else closed (Refused ShortSlice 0) b p q p′ q′ then
+    laid (r .width * r .height) (closeFrames r b) p q p′ q′

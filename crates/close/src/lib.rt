@@ -7,34 +7,15 @@ ghost use Rattle.house.specs.House.{houseFrame};
 ghost use Rattle.house.specs.Plans.{Palettes, Pictures};
 ghost use Rattle.reel.specs.Play.{Exact};
 ghost use Rattle.build.specs.Record.{made};
-ghost use Rattle.close.specs.Closing.{secondAt, closedHeader, ringWritten, closing, closeFrames, closeOk, closed, closeReel};
+ghost use Rattle.close.specs.Closing.{ringWritten, closing, closeFrames, closeOk, closed, closeReel};
 use answer::PALETTE_BYTES;
 use answer::Refusal;
 use answer::Written;
 use build::Built;
 use build::Reel;
+use chunks::Layout;
 use frame::holds;
 use reel::Ran;
-
-// Where frame 1 ends.
-fn second_at(bytes: &[u8]) -> usize
-    requires { ⌜ 132 ≤ length (now bytes) ⌝ }
-    ensures { λ r. ⌜ r ≡ secondAt (now (bytes .entry)) ⌝ }
-{
-    128 + words::u32_at(bytes, 128)
-}
-
-// Sets the header fields that a close sets.
-fn close_header(bytes: &mut [u8], size: usize, frames: usize, second: usize)
-    requires { ⌜ (128 ≤ length (now bytes)) × (frames ≤ maxFrames) ⌝ }
-    ensures { λ _. ⌜ now (bytes .exit) ≡ closedHeader size frames second (now (bytes .entry)) ⌝ }
-{
-    words::put_u32(bytes, 0, size);
-    words::put_u16(bytes, 6, frames);
-    words::put_u16(bytes, 14, 3);
-    words::put_u32(bytes, 80, 128);
-    words::put_u32(bytes, 84, second);
-}
 
 // Writes the ring, from the last state to that of frame 1, at the record's end and closes the header, if the ring fits.
 fn put_ring(
@@ -54,7 +35,7 @@ fn put_ring(
     let width = reel.width;
     let height = reel.height;
     let frames = reel.frames;
-    let second = second_at(bytes);
+    let second = reel_header::second_at(bytes);
     match build::append(
         bytes,
         reel.end,
@@ -67,7 +48,7 @@ fn put_ring(
     ) {
         Written::Refused(e, place) => Built::Refused(e, place),
         Written::Done(size) => {
-            close_header(bytes, size, frames, second);
+            reel_header::close_header(bytes, size, frames, second);
             Built::Done(Reel {
                 width,
                 height,
@@ -108,7 +89,7 @@ fn close_frames(
         picture2,
         palette2,
         &bytes[0..end],
-        true,
+        Layout::Packed,
         more,
         width,
         height,

@@ -1,6 +1,6 @@
 -- A frame of bytes writes bytes to the picture, so that read against a picture of bytes it gives a picture of bytes.
 use mathlib.Core.List.{List}
-use Prim.Native.Nat.{ℕ, zero, suc, _+_, _*_, _-_}
+use Prim.Native.Nat.{ℕ, _+_, _*_, _-_}
 use lib.ListN.{take, drop}
 use lib.Dec.{eqb}
 use Rattle.words.specs.Words.{Bytes, part}
@@ -16,12 +16,12 @@ use Rattle.picture.proofs.Bytewise.{black-bytewise, copied-bytewise}
 use Rattle.brun.proofs.Bytewise.{brun-bytewise}
 use Rattle.lc.proofs.Bytewise.{lc-bytewise}
 use Rattle.ss2.proofs.Bytewise.{ss2-bytewise}
-use Rattle.frame.specs.Frame.{ChunkWalk, subChunk, headerAt, afterHeader, subChunks, frameHeader, afterFrameHeader, frame}
+use Rattle.chunks.specs.Headers.{frameHeader}
+use Rattle.chunks.specs.declared.FrameHeader.{FrameHeader}
+use Rattle.chunks.specs.declared.FrameHeader.the-variants as whole
+use Rattle.frame.specs.Frame.{ChunkWalk, FrameWalk, subChunk, subChunks, afterFrameHeader, frame}
 use Rattle.frame.specs.Reading.{Outcome, enough, settled, readFrame}
-use Rattle.frame.specs.declared.FrameHeader.{FrameHeader}
-use Rattle.frame.specs.declared.FrameHeader.the-variants as whole
-use Rattle.frame.specs.declared.Header.{Header}
-use Rattle.frame.specs.declared.Header.the-variants.{Fault, Chunk}
+use Rattle.frame.proofs.Laws.{chunks-by}
 
 -- a sub-chunk's writes to the picture are of bytes
 abbrev WritesBytes : ChunkWalk → Type 0
@@ -39,16 +39,11 @@ chunk-bytewise w h kind b k =
     (cond-holds WritesBytes (eqb kind FLI-COPY) _ _ (copied-bytewise (w * h) b k) tt))))))
 
 chunks-bytewise : (w h : ℕ) (b : List ℕ) (n at : ℕ) → Bytes b → Bytewise (subChunks w h b n at .pixels)
-unfolding subChunks
-chunks-bytewise w h b zero at k = tt
-chunks-bytewise w h b (suc n) at k = go (headerAt b at) (λ end. chunks-bytewise w h b n end k)
-  where
-    go : (x : Header) → ((end : ℕ) → Bytewise (subChunks w h b n end .pixels))
-        → Bytewise (afterHeader w h b at x (λ end. subChunks w h b n end) .pixels)
-    go (Fault e) rest = tt
-    go (Chunk kind end) rest =
-        let body = bytes-take (end - (at + 6)) (drop (at + 6) b) (bytes-drop (at + 6) b k) in
-        bytewise-append (subChunk w h kind (part b (at + 6) end) .pixels) (subChunks w h b n end .pixels) (chunk-bytewise w h kind (part b (at + 6) end) body) (rest end)
+chunks-bytewise w h b n at i =
+    chunks-by w h b (λ (m k : ℕ) (f : FrameWalk). Bytewise (f .pixels)) (λ k. tt) (λ m k e q. tt)
+    (λ m k kind end q rest.
+    let body = bytes-take (end - (k + 6)) (drop (k + 6) b) (bytes-drop (k + 6) b i) in
+    bytewise-append (subChunk w h kind (part b (k + 6) end) .pixels) (subChunks w h b m end .pixels) (chunk-bytewise w h kind (part b (k + 6) end) body) rest) n at
 
 pub frame-bytewise : (w h : ℕ) (b : List ℕ) → Bytes b → Bytewise (frame w h b .pixels)
 unfolding frame

@@ -1,19 +1,17 @@
 -- Laws of the definitions in specs/ that the proofs of the readers cite.
-use mathlib.Core.Path.{_≡_, ap, ap₂, _∙_, sym, refl, subst}
+use mathlib.Core.Path.{_≡_, ap, _∙_, sym, refl, subst}
 use mathlib.Core.List.{List}
-use mathlib.Core.Bool.{Bool, true, false, cond}
-use Prim.Native.Nat.{ℕ, suc, zero, _≤_, _<_, _+_, _-_, _*_}
-use native.Mathlib.Nat.{not-suc-le-zero}
-use native.Mathlib.Numerals.{sub-one}
+use mathlib.Core.Bool.{true, false}
+use Prim.Native.Nat.{ℕ, suc, _≤_, _<_, _+_, _-_, _*_}
 use native.Mathlib.Omega.{arith}
-use borrow.Author.Tests.{le-leb, lt-leb, eq-eqb, ne-eqb, leb-true, eqb-true}
+use borrow.Author.Tests.{le-leb, ne-eqb, leb-true}
 use lib.ListN.{length}
-use lib.Dec.{leb, eqb}
-use Rattle.words.specs.Words.{u16At, u32At, part}
+use lib.Dec.{leb}
+use Rattle.words.specs.Words.{part}
 use Rattle.words.specs.Writes.{written}
 use Rattle.words.proofs.Laws.{written-append}
 use Rattle.answer.specs.declared.Refusal.{Refusal}
-use Rattle.answer.specs.declared.Refusal.the-variants.{Cut, WrongType, SmallSize, ShortSlice, BadSize}
+use Rattle.answer.specs.declared.Refusal.the-variants.{ShortSlice, BadSize}
 use Rattle.answer.specs.declared.Verdict.{Verdict}
 use Rattle.answer.specs.declared.Verdict.the-variants as verdict
 use Rattle.answer.specs.declared.Answer.{Answer}
@@ -21,50 +19,13 @@ use Rattle.answer.specs.declared.Answer.the-variants.{Done, Refused}
 use Rattle.answer.specs.Answer.{sizeOk}
 use Rattle.answer.specs.Walk.{Ended}
 use Rattle.answer.proofs.Laws.{both-true}
-use Rattle.answer.specs.Format.{FRAME-TYPE}
-use Rattle.frame.specs.declared.FrameHeader.{FrameHeader}
-use Rattle.frame.specs.declared.FrameHeader.the-variants as whole
-use Rattle.frame.specs.Frame.{frameHeader, afterFrameHeader, skipped, ChunkWalk, subChunk, FrameWalk, stop, headerAt, settle, followed, afterHeader, subChunks, frame}
+use Rattle.chunks.specs.declared.FrameHeader.{FrameHeader}
+use Rattle.chunks.specs.declared.Header.the-variants.{Fault, Chunk}
+use Rattle.chunks.specs.Headers.{headerAt, frameHeader}
+use Rattle.chunks.specs.Spans.{Spans}
+use Rattle.chunks.proofs.Spans.{subs-none, subs-step, subs-by}
+use Rattle.frame.specs.Frame.{afterFrameHeader, skipped, ChunkWalk, subChunk, FrameWalk, stop, settle, followed, acted, subChunks, frame}
 use Rattle.frame.specs.Reading.{outcome, enough, settled, readFrame}
-use Rattle.frame.specs.declared.Header.{Header}
-use Rattle.frame.specs.declared.Header.the-variants.{Fault, Chunk}
-
-module _ (b : List ℕ) (at : ℕ) where
-  pub header-cut : length b < at + 6 → Fault Cut ≡ headerAt b at
-  unfolding headerAt
-  header-cut h = simp (lt-leb (at + 6) (length b) h)
-
-  pub header-small : at + 6 ≤ length b → u32At b at < 6 → Fault SmallSize ≡ headerAt b at
-  unfolding headerAt
-  header-small h k = simp (le-leb (at + 6) (length b) h, lt-leb 6 (u32At b at) k)
-
-  pub header-large : at + 6 ≤ length b → 6 ≤ u32At b at → length b < at + u32At b at → Fault Cut ≡ headerAt b at
-  unfolding headerAt
-  header-large h k l = simp (le-leb (at + 6) (length b) h, le-leb 6 (u32At b at) k, lt-leb (at + u32At b at) (length b) l)
-
-  pub header-whole : (kind size : ℕ) → kind ≡ u16At b (at + 4) → size ≡ u32At b at → 6 ≤ u32At b at → at + u32At b at ≤ length b
-      → Chunk kind (at + size) ≡ headerAt b at
-  unfolding headerAt
-  header-whole kind size e f k l =
-      ap₂ (λ (x y : ℕ). Chunk x (at + y)) e f
-      ∙ simp (le-leb (at + 6) (length b) (omega arith), le-leb 6 (u32At b at) k, le-leb (at + u32At b at) (length b) l)
-
--- a sub-chunk lies within b
-abbrev pub HeaderIn : List ℕ → ℕ → Header → Type 0
-HeaderIn b at (Fault e) = Unit {0}
-HeaderIn b at (Chunk kind end) = (at + 6 ≤ end) × (end ≤ length b)
-
-pub header-in : (b : List ℕ) (at : ℕ) (x : Header) → headerAt b at ≡ x → HeaderIn b at x
-unfolding headerAt
-header-in b at x e =
-    subst (HeaderIn b at) e (go (leb (at + 6) (length b)) (leb 6 (u32At b at)) (leb (at + u32At b at) (length b)) refl refl)
-  where
-    go : (a s l : Bool) → leb 6 (u32At b at) ≡ s → leb (at + u32At b at) (length b) ≡ l
-        → HeaderIn b at (cond a (cond s (cond l (Chunk (u16At b (at + 4)) (at + u32At b at)) (Fault Cut)) (Fault SmallSize)) (Fault Cut))
-    go false s l p q = tt
-    go true false l p q = tt
-    go true true false p q = tt
-    go true true true p q = let k = leb-true 6 (u32At b at) p in (omega arith, leb-true (at + u32At b at) (length b) q)
 
 module _ (w h kind : ℕ) (b : List ℕ) where
   pub chunk-is : (k : ℕ) → kind ≡ k → subChunk w h kind b ≡ subChunk w h k b
@@ -80,22 +41,31 @@ module _ (w h kind : ℕ) (b : List ℕ) where
       simp (ne-eqb kind 4 p, ne-eqb kind 7 q, ne-eqb kind 11 r, ne-eqb kind 12 s, ne-eqb kind 13 t, ne-eqb kind 15 u, ne-eqb kind 16 v)
 
 module _ (w h : ℕ) (b : List ℕ) where
-  chunks-step : (n at : ℕ) → 0 < n → subChunks w h b n at ≡ afterHeader w h b at (headerAt b at) (λ end. subChunks w h b (n - 1) end)
-  unfolding subChunks
-  chunks-step zero at i = absurd (not-suc-le-zero i)
-  chunks-step (suc n) at i = ap (λ (k : ℕ). afterHeader w h b at (headerAt b at) (λ end. subChunks w h b k end)) (sym (sub-one (suc n)))
+  abbrev all : Spans → FrameWalk
+  all s = acted w h b (s .met) (s .answer)
 
   pub chunks-none : (n at : ℕ) → n ≤ 0 → subChunks w h b n at ≡ stop Done
   unfolding subChunks
-  chunks-none zero at i = refl
-  chunks-none (suc n) at i = absurd (not-suc-le-zero i)
+  chunks-none n at i = ap all (subs-none b n at i)
 
   pub chunks-stop : (n at : ℕ) → 0 < n → (e : Refusal) → headerAt b at ≡ Fault e → subChunks w h b n at ≡ stop (Refused e at)
-  chunks-stop n at i e q = chunks-step n at i ∙ ap (λ (x : Header). afterHeader w h b at x (λ end. subChunks w h b (n - 1) end)) q
+  unfolding subChunks
+  chunks-stop n at i e q = ap all (subs-step b n at i (Fault e) q)
 
   pub chunks-more : (n at : ℕ) → 0 < n → (kind end : ℕ) → headerAt b at ≡ Chunk kind end
       → subChunks w h b n at ≡ followed at (subChunk w h kind (part b (at + 6) end)) (subChunks w h b (n - 1) end)
-  chunks-more n at i kind end q = chunks-step n at i ∙ ap (λ (x : Header). afterHeader w h b at x (λ end. subChunks w h b (n - 1) end)) q
+  unfolding subChunks
+  chunks-more n at i kind end q = ap all (subs-step b n at i (Chunk kind end) q)
+
+  -- what holds of no sub-chunk, of a fault, and of a sub-chunk and then the rest
+  module _ (C : ℕ → ℕ → FrameWalk → Type 0)
+      (none : (at : ℕ) → C 0 at (stop Done))
+      (fault : (n at : ℕ) (e : Refusal) → headerAt b at ≡ Fault e → C (suc n) at (stop (Refused e at)))
+      (more : (n at kind end : ℕ) → headerAt b at ≡ Chunk kind end → C n end (subChunks w h b n end)
+      → C (suc n) at (followed at (subChunk w h kind (part b (at + 6) end)) (subChunks w h b n end))) where
+    pub chunks-by : (n at : ℕ) → C n at (subChunks w h b n at)
+    unfolding subChunks
+    chunks-by n at = subs-by b (λ (m k : ℕ) (s : Spans). C m k (all s)) none fault more n at
 
   -- the answer after a sub-chunk
   module _ (n at : ℕ) (i : 0 < n) (kind end : ℕ) (q : headerAt b at ≡ Chunk kind end) where
@@ -146,48 +116,6 @@ module _ (w h : ℕ) (b : List ℕ) (n at : ℕ) (i : 0 < n) (kind end : ℕ) (q
       ∙ written-append (subChunk w h kind (part b (at + 6) end) .colours) (subChunks w h b (n - 1) end .colours) d
 
 -- the whole frame
-
-module _ (b : List ℕ) where
-  pub frame-cut : length b < 16 → whole.Fault Cut ≡ frameHeader b
-  unfolding frameHeader
-  frame-cut k = simp (lt-leb 16 (length b) k)
-
-  pub frame-type : 16 ≤ length b → (u16At b 4 ≡ FRAME-TYPE → ⊥) → whole.Fault WrongType ≡ frameHeader b
-  unfolding frameHeader
-  frame-type k t = simp (le-leb 16 (length b) k, ne-eqb (u16At b 4) FRAME-TYPE t)
-
-  pub frame-small : 16 ≤ length b → u16At b 4 ≡ FRAME-TYPE → u32At b 0 < 16 → whole.Fault SmallSize ≡ frameHeader b
-  unfolding frameHeader
-  frame-small k t l = simp (le-leb 16 (length b) k, eq-eqb (u16At b 4) FRAME-TYPE t, lt-leb 16 (u32At b 0) l)
-
-  pub frame-large : 16 ≤ length b → u16At b 4 ≡ FRAME-TYPE → 16 ≤ u32At b 0 → length b < u32At b 0 → whole.Fault Cut ≡ frameHeader b
-  unfolding frameHeader
-  frame-large k t l m = simp (le-leb 16 (length b) k, eq-eqb (u16At b 4) FRAME-TYPE t, le-leb 16 (u32At b 0) l, lt-leb (u32At b 0) (length b) m)
-
-  pub frame-whole : (count size : ℕ) → count ≡ u16At b 6 → size ≡ u32At b 0 → 16 ≤ length b → u16At b 4 ≡ FRAME-TYPE → 16 ≤ u32At b 0 → u32At b 0 ≤ length b
-      → whole.Frame count size ≡ frameHeader b
-  unfolding frameHeader
-  frame-whole count size e f k t l m =
-      ap₂ (λ (x y : ℕ). whole.Frame x y) e f
-      ∙ simp (le-leb 16 (length b) k, eq-eqb (u16At b 4) FRAME-TYPE t, le-leb 16 (u32At b 0) l, le-leb (u32At b 0) (length b) m)
-
-  -- a frame lies within b, and its type is F1FA
-  abbrev pub FrameIn : FrameHeader → Type 0
-  FrameIn (whole.Fault e) = Unit {0}
-  FrameIn (whole.Frame count size) = (16 ≤ size) × (size ≤ length b) × (u16At b 4 ≡ FRAME-TYPE)
-
-  pub frame-in : (f : FrameHeader) → frameHeader b ≡ f → FrameIn f
-  unfolding frameHeader
-  frame-in f e =
-      subst FrameIn e (go (leb 16 (length b)) (eqb (u16At b 4) FRAME-TYPE) (leb 16 (u32At b 0)) (leb (u32At b 0) (length b)) refl refl refl)
-    where
-      go : (a t s l : Bool) → eqb (u16At b 4) FRAME-TYPE ≡ t → leb 16 (u32At b 0) ≡ s → leb (u32At b 0) (length b) ≡ l
-          → FrameIn (cond a (cond t (cond s (cond l (whole.Frame (u16At b 6) (u32At b 0)) (whole.Fault Cut)) (whole.Fault SmallSize)) (whole.Fault WrongType)) (whole.Fault Cut))
-      go false t s l o p q = tt
-      go true false s l o p q = tt
-      go true true false l o p q = tt
-      go true true true false o p q = tt
-      go true true true true o p q = (leb-true 16 (u32At b 0) p, leb-true (u32At b 0) (length b) q, eqb-true (u16At b 4) FRAME-TYPE o)
 
 pub frame-as : (w h : ℕ) (b : List ℕ) (f : FrameHeader) → frameHeader b ≡ f → frame w h b ≡ afterFrameHeader w h b f
 unfolding frame

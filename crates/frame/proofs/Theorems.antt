@@ -6,24 +6,26 @@
 use mathlib.Core.Path.{_≡_, refl, sym, _∙_, subst}
 use mathlib.Core.List.{List, _++_}
 use mathlib.Core.Bool.{Bool, true, false, cond}
-use Prim.Native.Nat.{ℕ, zero, suc, _≤_, _+_, _*_}
+use Prim.Native.Nat.{ℕ, _≤_, _+_, _*_}
 use native.Mathlib.Omega.{arith}
-use borrow.Author.Tests.{le-leb, leb-true}
-use lib.Dec.{leb, eqb}
+use borrow.Author.Tests.{le-leb}
+use lib.Dec.{eqb}
 use lib.ListN.{length, take, drop, length-append, length-take, length-drop}
 use lib.Seq.{length-take-le, drop-at}
 use Rattle.words.specs.Words.{part}
 use Rattle.words.specs.Writes.{Write, written}
+use Rattle.words.proofs.Tests.{cond-holds}
 use Rattle.words.proofs.Laws.{Inside, inside-append, length-written}
 use Rattle.answer.specs.Format.{FLI-COLOR256, FLI-SS2, FLI-COLOR, FLI-LC, FLI-BLACK, FLI-BRUN, FLI-COPY}
+use Rattle.answer.specs.Walk.{Walk}
 use Rattle.answer.specs.Answer.{Said, done, refused, sizeOk}
 use Rattle.answer.specs.declared.Refusal.{Refusal}
-use Rattle.answer.specs.declared.Refusal.the-variants.{ShortSlice, BadSize}
+use Rattle.answer.specs.declared.Refusal.the-variants.{BadSize}
 use Rattle.answer.specs.declared.Verdict.{Verdict}
 use Rattle.answer.specs.declared.Verdict.the-variants as verdict
 use Rattle.answer.specs.declared.Answer.{Answer}
 use Rattle.answer.specs.declared.Answer.the-variants.{Done, Refused}
-use Rattle.answer.proofs.Laws.{size-in, both-true}
+use Rattle.answer.proofs.Laws.{size-in}
 use Rattle.colour.specs.Colour.{colour}
 use Rattle.colour.proofs.Laws.{colour-inside}
 use Rattle.picture.specs.Picture.{black, copied}
@@ -34,13 +36,13 @@ use Rattle.lc.specs.Lc.{lc}
 use Rattle.lc.proofs.Laws.{lc-inside}
 use Rattle.ss2.specs.Ss2.{ss2}
 use Rattle.ss2.proofs.Laws.{ss2-inside}
-use Rattle.frame.specs.Frame.{ChunkWalk, onPicture, onPalette, skipped, subChunk, headerAt, settle, afterHeader, subChunks, frameHeader, afterFrameHeader, frame}
-use Rattle.frame.specs.Reading.{outcome, enough, settled, readFrame}
-use Rattle.frame.specs.declared.FrameHeader.{FrameHeader}
-use Rattle.frame.specs.declared.FrameHeader.the-variants as whole
-use Rattle.frame.specs.declared.Header.{Header}
-use Rattle.frame.specs.declared.Header.the-variants.{Fault, Chunk}
-use Rattle.frame.proofs.Laws.{HeaderIn, header-in, FrameIn, frame-in}
+use Rattle.chunks.specs.Headers.{frameHeader}
+use Rattle.chunks.specs.declared.FrameHeader.{FrameHeader}
+use Rattle.chunks.specs.declared.FrameHeader.the-variants as whole
+use Rattle.chunks.proofs.Headers.{required, header-in, FrameIn, frame-in}
+use Rattle.frame.specs.Frame.{ChunkWalk, FrameWalk, onPicture, onPalette, subChunk, settle, subChunks, afterFrameHeader, frame}
+use Rattle.frame.specs.Reading.{Outcome, outcome, enough, settled, readFrame}
+use Rattle.frame.proofs.Laws.{chunks-by, enough-in}
 
 -- 1. the answer
 
@@ -66,48 +68,38 @@ record Within (n : ℕ) (pixels colours : List Write) : Type 0 where
   pub in-palette : Inside 768 colours
 
 module _ (w h : ℕ) (some : 1 ≤ w) where
-  -- the walk that the tests of the kind select
-  abbrev picked : List ℕ → Bool → Bool → Bool → Bool → Bool → Bool → Bool → ChunkWalk
-  picked b c4 c7 c11 c12 c13 c15 c16 =
-      cond c4 (onPalette (colour false b))
-      (cond c7 (onPicture (ss2 w h b))
-      (cond c11 (onPalette (colour true b))
-      (cond c12 (onPicture (lc w h b))
-      (cond c13 (onPicture (black (w * h)))
-      (cond c15 (onPicture (brun w h b))
-      (cond c16 (onPicture (copied (w * h) b))
-      (skipped b)))))))
+  abbrev Inner : ChunkWalk → Type 0
+  Inner c = Within (w * h) (c .pixels) (c .colours)
+
+  on-picture : (x : Walk) → Inside (w * h) (x .writes) → Inner (onPicture x)
+  on-picture x i = record { in-picture = i; in-palette = tt }
+
+  on-palette : (x : Walk) → Inside 768 (x .writes) → Inner (onPalette x)
+  on-palette x i = record { in-picture = tt; in-palette = i }
 
   chunk-within : (kind : ℕ) (b : List ℕ) → Within (w * h) (subChunk w h kind b .pixels) (subChunk w h kind b .colours)
   unfolding subChunk
   chunk-within kind b =
-      go (eqb kind FLI-COLOR256) (eqb kind FLI-SS2) (eqb kind FLI-COLOR) (eqb kind FLI-LC) (eqb kind FLI-BLACK) (eqb kind FLI-BRUN) (eqb kind FLI-COPY)
-    where
-      go : (c4 c7 c11 c12 c13 c15 c16 : Bool) → Within (w * h) (picked b c4 c7 c11 c12 c13 c15 c16 .pixels) (picked b c4 c7 c11 c12 c13 c15 c16 .colours)
-      go true c7 c11 c12 c13 c15 c16 = record { in-picture = tt; in-palette = colour-inside false b }
-      go false true c11 c12 c13 c15 c16 = record { in-picture = ss2-inside w h b some; in-palette = tt }
-      go false false true c12 c13 c15 c16 = record { in-picture = tt; in-palette = colour-inside true b }
-      go false false false true c13 c15 c16 = record { in-picture = lc-inside w h b; in-palette = tt }
-      go false false false false true c15 c16 = record { in-picture = black-inside (w * h); in-palette = tt }
-      go false false false false false true c16 = record { in-picture = brun-inside w h b; in-palette = tt }
-      go false false false false false false true = record { in-picture = copied-inside (w * h) b; in-palette = tt }
-      go false false false false false false false = record { in-picture = tt; in-palette = tt }
+      cond-holds Inner (eqb kind FLI-COLOR256) _ _ (on-palette (colour false b) (colour-inside false b))
+      (cond-holds Inner (eqb kind FLI-SS2) _ _ (on-picture (ss2 w h b) (ss2-inside w h b some))
+      (cond-holds Inner (eqb kind FLI-COLOR) _ _ (on-palette (colour true b) (colour-inside true b))
+      (cond-holds Inner (eqb kind FLI-LC) _ _ (on-picture (lc w h b) (lc-inside w h b))
+      (cond-holds Inner (eqb kind FLI-BLACK) _ _ (on-picture (black (w * h)) (black-inside (w * h)))
+      (cond-holds Inner (eqb kind FLI-BRUN) _ _ (on-picture (brun w h b) (brun-inside w h b))
+      (cond-holds Inner (eqb kind FLI-COPY) _ _ (on-picture (copied (w * h) b) (copied-inside (w * h) b)) (record { in-picture = tt; in-palette = tt })))))))
 
   chunks-within : (b : List ℕ) (n at : ℕ) → Within (w * h) (subChunks w h b n at .pixels) (subChunks w h b n at .colours)
-  unfolding subChunks
-  chunks-within b zero at = record { in-picture = tt; in-palette = tt }
-  chunks-within b (suc n) at = go (headerAt b at) (λ end. chunks-within b n end)
-    where
-      go : (x : Header) → ((end : ℕ) → Within (w * h) (subChunks w h b n end .pixels) (subChunks w h b n end .colours))
-          → Within (w * h) (afterHeader w h b at x (λ end. subChunks w h b n end) .pixels) (afterHeader w h b at x (λ end. subChunks w h b n end) .colours)
-      go (Fault e) rest = record { in-picture = tt; in-palette = tt }
-      go (Chunk kind end) rest =
-          let k = subChunk w h kind (part b (at + 6) end) in
-          let c = chunk-within kind (part b (at + 6) end) in
-          record {
-            in-picture = inside-append (w * h) (k .pixels) (subChunks w h b n end .pixels) (c .in-picture) (rest end .in-picture);
-            in-palette = inside-append 768 (k .colours) (subChunks w h b n end .colours) (c .in-palette) (rest end .in-palette);
-          }
+  chunks-within b n at =
+      chunks-by w h b (λ (m k : ℕ) (f : FrameWalk). Within (w * h) (f .pixels) (f .colours))
+      (λ k. record { in-picture = tt; in-palette = tt })
+      (λ m k e q. record { in-picture = tt; in-palette = tt })
+      (λ m k kind end q rest.
+      let x = subChunk w h kind (part b (k + 6) end) in
+      let c = chunk-within kind (part b (k + 6) end) in
+      record {
+        in-picture = inside-append (w * h) (x .pixels) (subChunks w h b m end .pixels) (c .in-picture) (rest .in-picture);
+        in-palette = inside-append 768 (x .colours) (subChunks w h b m end .colours) (c .in-palette) (rest .in-palette);
+      }) n at
 
   frame-within : (b : List ℕ) → Within (w * h) (frame w h b .pixels) (frame w h b .colours)
   unfolding frame
@@ -136,21 +128,22 @@ kept-front n d ws h i =
     }
 
 module _ (b : List ℕ) (w h : ℕ) (p q : List ℕ) where
+  abbrev Kept-both : Outcome → Type 0
+  Kept-both o = Kept (w * h) p (o .picture) × Kept 768 q (o .palette)
+
   kept : Kept (w * h) p (readFrame b w h p q .picture) × Kept 768 q (readFrame b w h p q .palette)
   unfolding readFrame
-  kept = go (sizeOk w h) refl (enough (w * h) p q) refl (frame w h b .answer)
+  kept =
+      required Kept-both (sizeOk w h) _ _ (kept-same (w * h) p, kept-same 768 q) (λ s.
+      required Kept-both (enough (w * h) p q) _ _ (kept-same (w * h) p, kept-same 768 q) (λ e. by-answer s e (frame w h b .answer)))
     where
-      go : (c : Bool) → sizeOk w h ≡ c → (d : Bool) → enough (w * h) p q ≡ d → (a : Answer)
-          → Kept (w * h) p (cond c (cond d (settled (w * h) (frame w h b) a p q) (outcome (Refused ShortSlice 0) p q)) (outcome (Refused BadSize 0) p q) .picture)
-          × Kept 768 q (cond c (cond d (settled (w * h) (frame w h b) a p q) (outcome (Refused ShortSlice 0) p q)) (outcome (Refused BadSize 0) p q) .palette)
-      go false s d e a = (kept-same (w * h) p, kept-same 768 q)
-      go true s false e a = (kept-same (w * h) p, kept-same 768 q)
-      go true s true e (Refused r at) = (kept-same (w * h) p, kept-same 768 q)
-      go true s true e Done =
+      by-answer : sizeOk w h ≡ true → enough (w * h) p q ≡ true → (a : Answer) → Kept-both (settled (w * h) (frame w h b) a p q)
+      by-answer s e (Refused r at) = (kept-same (w * h) p, kept-same 768 q)
+      by-answer s e Done =
           let i = frame-within w h (size-in w h s .0) b in
-          let n = both-true (leb (w * h) (length p)) (leb 768 (length q)) e in (
-            kept-front (w * h) p (frame w h b .pixels) (leb-true (w * h) (length p) (n .0)) (i .in-picture),
-            kept-front 768 q (frame w h b .colours) (leb-true 768 (length q) (n .1)) (i .in-palette),
+          let n = enough-in (w * h) p q e in (
+            kept-front (w * h) p (frame w h b .pixels) (n .0) (i .in-picture),
+            kept-front 768 q (frame w h b .colours) (n .1) (i .in-palette),
           )
 
   pub picture-kept : Kept (w * h) p (readFrame b w h p q .picture)
@@ -171,14 +164,12 @@ place-settle b at (verdict.Ends end) a h i = i
 place-settle b at (verdict.Fault e) a h i = h
 
 chunks-place : (w h : ℕ) (b : List ℕ) (n at : ℕ) → at ≤ length b → PlaceIn b (subChunks w h b n at .answer)
-unfolding subChunks
-chunks-place w h b zero at i = tt
-chunks-place w h b (suc n) at i = go (headerAt b at) (header-in b at _ refl) (λ end k. chunks-place w h b n end k)
-  where
-    go : (x : Header) → HeaderIn b at x → ((end : ℕ) → end ≤ length b → PlaceIn b (subChunks w h b n end .answer))
-        → PlaceIn b (afterHeader w h b at x (λ end. subChunks w h b n end) .answer)
-    go (Fault e) k rest = i
-    go (Chunk kind end) k rest = place-settle b at (subChunk w h kind (part b (at + 6) end) .verdict) (subChunks w h b n end .answer) i (rest end (k .1))
+chunks-place w h b n at i =
+    chunks-by w h b (λ (m k : ℕ) (f : FrameWalk). k ≤ length b → PlaceIn b (f .answer))
+    (λ k j. tt)
+    (λ m k e q j. j)
+    (λ m k kind end q rest j.
+    place-settle b k (subChunk w h kind (part b (k + 6) end) .verdict) (subChunks w h b m end .answer) j (rest (header-in b k _ q .1))) n at i
 
 place-front : (b : List ℕ) (n : ℕ) (a : Answer) → PlaceIn (take n b) a → PlaceIn b a
 place-front b n Done i = tt
@@ -202,14 +193,15 @@ SaidIn b (done v) = Unit {0}
 SaidIn b (refused n place) = place ≤ length b
 
 module _ (b : List ℕ) (w h : ℕ) (p q : List ℕ) where
+  abbrev Placed : Outcome → Type 0
+  Placed o = SaidIn b (o .said)
+
   pub place-within : (n place : ℕ) → readFrame b w h p q .said ≡ refused n place → place ≤ length b
   unfolding readFrame
   place-within n place e =
-      subst (SaidIn b) e (go (sizeOk w h) (enough (w * h) p q) (frame w h b .answer) (frame-place w h b))
+      subst (SaidIn b) e
+      (cond-holds Placed (sizeOk w h) _ _ (cond-holds Placed (enough (w * h) p q) _ _ (by-answer (frame w h b .answer) (frame-place w h b)) (omega arith)) (omega arith))
     where
-      go : (c d : Bool) (a : Answer) → PlaceIn b a
-          → SaidIn b (cond c (cond d (settled (w * h) (frame w h b) a p q) (outcome (Refused ShortSlice 0) p q)) (outcome (Refused BadSize 0) p q) .said)
-      go false d a i = omega arith
-      go true false a i = omega arith
-      go true true Done i = tt
-      go true true (Refused r at) i = i
+      by-answer : (a : Answer) → PlaceIn b a → Placed (settled (w * h) (frame w h b) a p q)
+      by-answer Done i = tt
+      by-answer (Refused r at) i = i

@@ -1,9 +1,10 @@
 -- Reading one frame against a state: the answer, and what the lent slices hold afterwards.
 use Prim.Native.Nat.{ℕ, _*_, _≤_}
 use mathlib.Core.List.{List, _++_}
-use mathlib.Core.Bool.{Bool, _&&_, cond}
+use mathlib.Core.Bool.{Bool, _&&_}
 use lib.ListN.{length, take, drop}
 use lib.Dec.{leb}
+use Rattle.words.specs.Words.{require_else_then_}
 use Rattle.words.specs.Writes.{written}
 use Rattle.answer.specs.Answer.{Said, told, State, maxWidth, maxHeight, sizeOk}
 use Rattle.answer.specs.declared.Refusal.the-variants.{ShortSlice, BadSize}
@@ -44,12 +45,10 @@ settled n f (Refused e at) p q = outcome (Refused e at) p q
 -- "Single frame: 2, 1, then its bytes from the front"; refusals that no chunk causes give place 0
 unfoldable pub readFrame : List ℕ → ℕ → ℕ → List ℕ → List ℕ → Outcome
 unfolding frame
-readFrame b w h p q =
-    cond (sizeOk w h)
-    (cond (enough (w * h) p q)
-    (settled (w * h) (frame w h b) (frame w h b .answer) p q)
-    (outcome (Refused ShortSlice 0) p q))
-    (outcome (Refused BadSize 0) p q)
+readFrame bytes width height picture palette =
+    require sizeOk width height else outcome (Refused BadSize 0) picture palette then
+    require enough (width * height) picture palette else outcome (Refused ShortSlice 0) picture palette then
+    settled (width * height) (frame width height bytes) (frame width height bytes .answer) picture palette
 
 -- what playing asks: a size in range, and slices that hold a picture of it and a palette
 pub record Room (w h : ℕ) (p q : List ℕ) : Type 0 where

@@ -9,64 +9,10 @@ ghost use Rattle.words.specs.Writes.{written};
 ghost use Rattle.answer.specs.Answer.{maxWidth, maxHeight};
 ghost use Rattle.answer.specs.Walk.{Ended};
 ghost use Rattle.answer.specs.declared.Answer.the-variants.{Done};
-ghost use Rattle.frame.specs.Frame.{subChunk, headerAt, subChunks, frameHeader, frame};
+ghost use Rattle.frame.specs.Frame.{subChunk, subChunks, frame};
 ghost use Rattle.frame.specs.Reading.{Room, outcome, readFrame};
-
-// A sub-chunk's header: its first fault, or its kind and the offset of its end.
-pub enum Header {
-    Fault(answer::Refusal),
-    Chunk { kind: usize, end: usize },
-}
-
-// A frame's header: its first fault, or how many sub-chunks it has and its size.
-pub enum FrameHeader {
-    Fault(answer::Refusal),
-    Frame { count: usize, size: usize },
-}
-
-// The sub-chunk's header at offset at.
-pub fn header_at(b: &[u8], at: usize) -> Header
-    requires { ⌜ at ≤ length (now b) ⌝ }
-    ensures { λ r. ⌜ r ≡ headerAt (now (b .entry)) at ⌝ }
-{
-    if b.len() - at < 6 {
-        return Header::Fault(answer::Refusal::Cut);
-    }
-    let size = words::u32_at(b, at);
-    if size < 6 {
-        return Header::Fault(answer::Refusal::SmallSize);
-    }
-    if b.len() - at < size {
-        return Header::Fault(answer::Refusal::Cut);
-    }
-    Header::Chunk {
-        kind: words::u16_at(b, at + 4),
-        end: at + size,
-    }
-}
-
-// The frame's header.
-pub fn frame_header(b: &[u8]) -> FrameHeader
-    ensures { λ r. ⌜ r ≡ frameHeader (now (b .entry)) ⌝ }
-{
-    if b.len() < 16 {
-        return FrameHeader::Fault(answer::Refusal::Cut);
-    }
-    if words::u16_at(b, 4) != answer::FRAME_TYPE {
-        return FrameHeader::Fault(answer::Refusal::WrongType);
-    }
-    let size = words::u32_at(b, 0);
-    if size < 16 {
-        return FrameHeader::Fault(answer::Refusal::SmallSize);
-    }
-    if b.len() < size {
-        return FrameHeader::Fault(answer::Refusal::Cut);
-    }
-    FrameHeader::Frame {
-        count: words::u16_at(b, 6),
-        size,
-    }
-}
+use chunks::CHUNK_HEADER;
+use chunks::FRAME_HEADER;
 
 // How a sub-chunk's body comes out.
 fn check_chunk(kind: usize, body: &[u8], width: usize, height: usize) -> answer::Verdict
@@ -115,14 +61,19 @@ fn check_chunks(b: &[u8], width: usize, height: usize, count: usize) -> answer::
     requires { ⌜ (16 ≤ length (now b)) × (width ≤ maxWidth) × (height ≤ maxHeight) ⌝ }
     ensures { λ r. ⌜ r ≡ subChunks width height (now (b .entry)) count 16 .answer ⌝ }
 {
-    let mut at = 16;
+    let mut at = FRAME_HEADER;
     let mut left = count;
     while left > 0 {
-        match header_at(b, at) {
-            Header::Fault(e) => {
+        match chunks::header_at(b, at) {
+            chunks::Header::Fault(e) => {
                 return answer::Answer::Refused(e, at);
             }
-            Header::Chunk { kind, end } => match check_chunk(kind, &b[at + 6..end], width, height) {
+            chunks::Header::Chunk { kind, end } => match check_chunk(
+                kind,
+                &b[at + CHUNK_HEADER..end],
+                width,
+                height,
+            ) {
                 answer::Verdict::Fault(e) => {
                     return answer::Answer::Refused(e, at);
                 }
@@ -150,15 +101,22 @@ fn play_chunks(
     ensures pixels { λ _. ⌜ now (picture .exit) ≡ written (subChunks width height (now (b .entry)) count 16 .pixels) (now (picture .entry)) ⌝ }
     ensures colours { λ _. ⌜ now (palette .exit) ≡ written (subChunks width height (now (b .entry)) count 16 .colours) (now (palette .entry)) ⌝ }
 {
-    let mut at = 16;
+    let mut at = FRAME_HEADER;
     let mut left = count;
     while left > 0 {
-        match header_at(b, at) {
-            Header::Fault(_) => {
+        match chunks::header_at(b, at) {
+            chunks::Header::Fault(_) => {
                 return;
             }
-            Header::Chunk { kind, end } => {
-                play_chunk(picture, palette, kind, &b[at + 6..end], width, height);
+            chunks::Header::Chunk { kind, end } => {
+                play_chunk(
+                    picture,
+                    palette,
+                    kind,
+                    &b[at + CHUNK_HEADER..end],
+                    width,
+                    height,
+                );
                 at = end;
             }
         }
@@ -171,9 +129,14 @@ pub fn check_frame(b: &[u8], width: usize, height: usize) -> answer::Answer
     requires { ⌜ (width ≤ maxWidth) × (height ≤ maxHeight) ⌝ }
     ensures { λ r. ⌜ r ≡ frame width height (now (b .entry)) .answer ⌝ }
 {
-    match frame_header(b) {
-        FrameHeader::Fault(e) => answer::Answer::Refused(e, 0),
-        FrameHeader::Frame { count, size } => check_chunks(&b[0..size], width, height, count),
+    match chunks::frame_header(b) {
+        chunks::FrameHeader::Fault(e) => answer::Answer::Refused(e, 0),
+        chunks::FrameHeader::Frame { count, size } => check_chunks(
+            &b[0..size],
+            width,
+            height,
+            count,
+        ),
     }
 }
 
@@ -183,9 +146,9 @@ pub fn play_frame(picture: &mut [u8], palette: &mut [u8], b: &[u8], width: usize
     ensures pixels { λ _. ⌜ now (picture .exit) ≡ written (frame width height (now (b .entry)) .pixels) (now (picture .entry)) ⌝ }
     ensures colours { λ _. ⌜ now (palette .exit) ≡ written (frame width height (now (b .entry)) .colours) (now (palette .entry)) ⌝ }
 {
-    match frame_header(b) {
-        FrameHeader::Fault(_) => {}
-        FrameHeader::Frame { count, size } => {
+    match chunks::frame_header(b) {
+        chunks::FrameHeader::Fault(_) => {}
+        chunks::FrameHeader::Frame { count, size } => {
             play_chunks(picture, palette, &b[0..size], width, height, count);
         }
     }

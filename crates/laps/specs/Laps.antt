@@ -1,18 +1,19 @@
 -- What a player shows that plays frame 1, and then frames 2 to the ring again and again; and that an accepted reel leads back.
 use Prim.Native.Nat.{ℕ, zero, suc, _*_}
 use mathlib.Core.List.{List, [], _∷_, _++_}
-use mathlib.Core.Bool.{Bool, false}
 use mathlib.Core.Path.{_≡_}
 use lib.ListN.{length, take}
 use Rattle.words.specs.Words.{part}
 use Rattle.answer.specs.Answer.{State, blank}
 use Rattle.answer.specs.declared.Answer.the-variants.{Done}
 use Rattle.frame.specs.Reading.{outcome, readFrame}
-use Rattle.walk.specs.Head.{headOf}
-use Rattle.walk.specs.Walk.{nextAt}
-use Rattle.walk.specs.declared.Head.the-variants.{Reel}
-use Rattle.walk.specs.declared.Next.the-variants.{Frame}
-use Rattle.reel.specs.Play.{oneFrame}
+use Rattle.reel_header.specs.Head.{headOf}
+use Rattle.chunks.specs.declared.Layout.{Layout}
+use Rattle.chunks.specs.declared.Layout.the-variants.{Loose}
+use Rattle.chunks.specs.Spans.{HEADER-BYTES, Span, frameSpans, nextAt}
+use Rattle.reel_header.specs.declared.Head.the-variants.{Reel}
+use Rattle.chunks.specs.declared.Next.the-variants.{Frame}
+use Rattle.reel.specs.Play.{read}
 use Rattle.reel.specs.declared.Ran.{Ran}
 use Rattle.reel.specs.declared.Ran.the-variants.{Stopped, To}
 
@@ -31,25 +32,29 @@ abbrev pub statesBy : Ran → State → (ℕ → State → List State) → List 
 statesBy (Stopped e place) s rest = []
 statesBy (To last next) s rest = s ∷ rest next s
 
-module _ (packed : Bool) (w h : ℕ) (b : List ℕ) where
+-- the states after each of frames one after the other, the first read against s
+abbrev pub statesOf : ℕ → ℕ → List ℕ → List Span → State → List State
+statesOf w h b [] s = []
+statesOf w h b (f ∷ fs) s =
+    statesBy (read w h b (f .from) (f .end) s .result) (read w h b (f .from) (f .end) s .after) (λ at′ s′. statesOf w h b fs s′)
+
+module _ (layout : Layout) (w h : ℕ) (b : List ℕ) where
   -- the states after each of count frames from offset at on, the first read against s
   unfoldable pub states : ℕ → ℕ → State → List State
-  unfolding oneFrame
-  states zero at s = []
-  states (suc count) at s =
-      statesBy (oneFrame packed w h b at s .result) (oneFrame packed w h b at s .after) (λ at′ s′. states count at′ s′)
+  unfolding frameSpans
+  states count at s = statesOf w h b (frameSpans layout b count at .met) s
 
 module _ (w h : ℕ) (b : List ℕ) where
   -- k laps, each of count frames from offset at on and begun with the state that the lap before left
   unfoldable pub laps : ℕ → ℕ → ℕ → State → List State
   unfolding states
   laps zero count at s = []
-  laps (suc k) count at s = states false w h b count at s ++ laps k count at (lastOf s (states false w h b count at s))
+  laps (suc k) count at s = states Loose w h b count at s ++ laps k count at (lastOf s (states Loose w h b count at s))
 
   -- the frames that are met one after the other from offset at on, each read by `read_frame` against the state before it, give these states
   pub data Reads : ℕ → State → List State → Type 0 where
     none : {at : ℕ} {s : State} → Reads at s []
-    then : {at : ℕ} {s : State} {ts : List State} (from end : ℕ) (t : State) → nextAt b at ≡ Frame from end
+    then : {at : ℕ} {s : State} {ts : List State} (from end : ℕ) (t : State) → nextAt Loose b at ≡ Frame from end
         → readFrame (part b from end) w h (s .picture) (s .palette) ≡ outcome Done (t .picture) (t .palette)
         → Reads end t ts → Reads at s (t ∷ ts)
 
@@ -60,10 +65,11 @@ pub record LeadsBack (b : List ℕ) : Type 0 where
   pub height : ℕ
   pub count : ℕ
   pub size : ℕ
-  pub head : headOf b ≡ Reel width height count size
+  pub speed : ℕ
+  pub head : headOf b ≡ Reel width height count size speed
   pub one : State
   pub middle : List State
   pub many : suc (length middle) ≡ count
-  pub reads : Reads width height (take size b) 128 (blank (width * height)) (one ∷ (middle ++ (one ∷ [])))
+  pub reads : Reads width height (take size b) HEADER-BYTES (blank (width * height)) (one ∷ (middle ++ (one ∷ [])))
   pub second : ℕ
   pub every-lap : (k : ℕ) → laps width height (take size b) k count second one ≡ times k (middle ++ (one ∷ []))

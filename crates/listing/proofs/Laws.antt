@@ -1,7 +1,7 @@
 -- Laws of the listing's definitions by cases, and of text stored piece by piece.
 use mathlib.Core.Path.{_≡_, refl, sym, ap, ap₂, _∙_}
 use mathlib.Core.List.{List, [], _++_}
-use mathlib.Core.Bool.{Bool, true, false, cond}
+use mathlib.Core.Bool.{cond}
 use Prim.Native.Nat.{ℕ, zero, suc, _+_, _-_, _≤_, _<_}
 use native.Mathlib.Nat.{not-suc-le-zero}
 use native.Mathlib.Numerals.{add-one, sub-one}
@@ -9,25 +9,23 @@ use native.Mathlib.Omega.{arith}
 use borrow.Author.Tests.{lt-ltb, le-ltb, lt-leb, le-leb}
 use lib.Dec.{leb, eqb}
 use lib.ListN.{length, take, drop}
+use Rattle.words.proofs.Tests.{cond-holds}
 use Rattle.words.proofs.Laws.{put-front}
 use Rattle.answer.specs.Answer.{number}
 use Rattle.answer.specs.Format.{FLI-PSTAMP}
 use Rattle.answer.specs.declared.Refusal.the-variants.{NoRoom}
-use Rattle.answer.specs.declared.Answer.{Answer}
 use Rattle.answer.specs.declared.Written.the-variants as written
-use Rattle.frame.specs.Frame.{headerAt}
-use Rattle.frame.specs.declared.Header.{Header}
+use Rattle.chunks.specs.Headers.{headerAt}
+use Rattle.chunks.specs.declared.Header.{Header}
 use Rattle.house.proofs.Laws.{fitted-none, fitted-whole}
 use Rattle.house.specs.Writing.{output}
-use Rattle.walk.specs.Head.{headOf}
-use Rattle.walk.specs.Walk.{nextAt, topFrames}
-use Rattle.walk.specs.declared.Head.{Head}
-use Rattle.walk.specs.declared.Head.the-variants as head
-use Rattle.walk.specs.declared.Next.{Next}
-use Rattle.walk.specs.declared.Next.the-variants.{Fault, Frame}
-use Rattle.walk.proofs.Laws.{NextIn, step-in}
+use Rattle.reel_header.specs.Head.{headOf}
+use Rattle.chunks.specs.Spans.{HEADER-BYTES, extent}
+use Rattle.chunks.specs.declared.Extent.{Extent}
+use Rattle.reel_header.specs.declared.Head.{Head}
+use Rattle.reel_header.specs.declared.Head.the-variants as head
 use Rattle.text.specs.Text.{refusedLine}
-use Rattle.listing.specs.Listing.{headBytes, countAt, afterChild, childrenBy, inside, containerOf, childrenOf, afterFrame, ringEnd, chunkLines, walkLines, headLines, LIST-INPUT, listing, list}
+use Rattle.listing.specs.Listing.{headBytes, countAt, afterChild, childrenBy, inside, containerOf, childrenOf, chunkLines, walkLines, headLines, LIST-INPUT, listing, list}
 
 -- the children of a container
 
@@ -50,11 +48,7 @@ module _ (inner : ℕ → ℕ → ℕ → List ℕ) (b : List ℕ) (depth parent
 -- a container
 
 pub head-bytes-in : (kind : ℕ) → (12 ≤ headBytes kind) × (headBytes kind ≤ 16)
-head-bytes-in kind = by (eqb kind FLI-PSTAMP)
-  where
-    by : (t : Bool) → (12 ≤ cond t 12 16) × (cond t 12 16 ≤ 16)
-    by true = (omega arith, omega arith)
-    by false = (omega arith, omega arith)
+head-bytes-in kind = cond-holds (λ (n : ℕ). (12 ≤ n) × (n ≤ 16)) (eqb kind FLI-PSTAMP) 12 16 (omega arith, omega arith) (omega arith, omega arith)
 
 module _ (b : List ℕ) (depth at end kind : ℕ) where
   pub container-deep : 8 ≤ depth → containerOf b depth at end kind ≡ []
@@ -74,40 +68,10 @@ module _ (b : List ℕ) (depth at end kind : ℕ) where
     unfolding inside
     container-children h = rw (one-level, le-ltb _ _ h)
 
--- where frames end
-
-module _ (b : List ℕ) where
-  pub ring-none : (n at : ℕ) → n ≤ 0 → ringEnd b n at ≡ at
-  unfolding ringEnd
-  ring-none zero at i = refl
-  ring-none (suc n) at i = absurd (not-suc-le-zero i)
-
-  pub ring-step : (n at : ℕ) → 0 < n → (x : Next) → nextAt b at ≡ x → ringEnd b n at ≡ afterFrame at x (λ end. ringEnd b (n - 1) end)
-  unfolding ringEnd
-  ring-step zero at i x e = absurd (not-suc-le-zero i)
-  ring-step (suc n) at i x e =
-      ap (λ (k : ℕ). afterFrame at (nextAt b at) (λ end. ringEnd b k end)) (sym (sub-one (suc n)))
-      ∙ ap (λ (y : Next). afterFrame at y (λ end. ringEnd b (suc n - 1) end)) e
-
-  ring-by : (n at : ℕ) → at ≤ length b → (at ≤ ringEnd b n at) × (ringEnd b n at ≤ length b)
-  unfolding ringEnd
-  ring-by zero at h = (omega arith, h)
-  ring-by (suc n) at h = by (nextAt b at) (step-in false b at h _ refl) (λ end i. ring-by n end i)
-    where
-      by : (x : Next) → NextIn b at x → ((end : ℕ) → end ≤ length b → (end ≤ ringEnd b n end) × (ringEnd b n end ≤ length b))
-          → (at ≤ afterFrame at x (λ end. ringEnd b n end)) × (afterFrame at x (λ end. ringEnd b n end) ≤ length b)
-      by (Fault e place) i rest = (omega arith, h)
-      by (Frame from end) i rest = let r = rest end (i .2) in (omega (arith, i .0, i .1, r .0), r .1)
-
-  -- they end behind their start and within b
-  pub ring-in : (n at : ℕ) → at ≤ length b → (r : ℕ) → r ≡ ringEnd b n at → (at ≤ r) × (r ≤ length b)
-  ring-in n at h r e = let i = ring-by n at h in (omega (arith, i .0), omega (arith, i .1))
-
--- all chunks of a reel; end: where the ring ends, n: the reel's length, each as it was computed
-pub chunk-lines-are : (b : List ℕ) (frames end n : ℕ) → end ≡ ringEnd b (frames + 1) 128 → n ≡ length b → childrenOf b 0 0 end n 128 ≡ chunkLines b frames
+-- all chunks of a reel; n: the reel's length as it was computed
+pub chunk-lines-are : (b : List ℕ) (end n : ℕ) → n ≡ length b → childrenOf b 0 0 end n HEADER-BYTES ≡ chunkLines b end
 unfolding chunkLines
-chunk-lines-are b frames end n e l =
-    ap₂ (λ (x y : ℕ). childrenOf b 0 0 x y 128) (e ∙ ap (λ (k : ℕ). ringEnd b k 128) (add-one frames)) l
+chunk-lines-are b end n l = ap (λ (y : ℕ). childrenOf b 0 0 end y HEADER-BYTES) l
 
 -- the listing
 
@@ -122,12 +86,12 @@ module _ (b : List ℕ) where
     listing-head x e = ap (λ (y : Head). cond (leb (length b) LIST-INPUT) (headLines b y) (refusedLine (number NoRoom) 0)) e ∙ simp (le-leb (length b) LIST-INPUT few)
 
     -- m: the length of the part that was walked
-    pub listing-walk : (w h frames size : ℕ) → headOf b ≡ head.Reel w h frames size → (m : ℕ) → m ≡ size
-        → (a : Answer) → topFrames (take m b) (frames + 1) 128 .answer ≡ a → listing b ≡ walkLines (take m b) w h frames a
-    listing-walk w h frames size x m k a e =
-        listing-head _ x
-        ∙ ap (λ (n : ℕ). walkLines (take n b) w h frames (topFrames (take n b) (suc frames) 128 .answer)) (sym k)
-        ∙ ap (walkLines (take m b) w h frames) (ap (λ (n : ℕ). topFrames (take m b) n 128 .answer) (sym (add-one frames)) ∙ e)
+    pub listing-walk : (w h frames size speed : ℕ) → headOf b ≡ head.Reel w h frames size speed → (m : ℕ) → m ≡ size
+        → (x : Extent) → extent (take m b) (frames + 1) HEADER-BYTES ≡ x → listing b ≡ walkLines (take m b) w h frames x
+    listing-walk w h frames size speed y m k x e =
+        listing-head _ y
+        ∙ ap (λ (n : ℕ). walkLines (take n b) w h frames (extent (take n b) (suc frames) HEADER-BYTES)) (sym k)
+        ∙ ap (walkLines (take m b) w h frames) (ap (λ (n : ℕ). extent (take m b) n HEADER-BYTES) (sym (add-one frames)) ∙ e)
 
 -- the answer: n is the listing's length
 

@@ -1,6 +1,6 @@
 -- How long the text of a listing is: a chunk of s bytes, with all that is inside it, takes at most 20 bytes of text for each 6 of the s.
 -- Its own line has at most 20, and its children lie behind its first 12 or 16.
-use mathlib.Core.Path.{_≡_, refl, ap, subst}
+use mathlib.Core.Path.{_≡_, refl, ap}
 use mathlib.Core.List.{List, [], _++_}
 use mathlib.Core.Bool.{Bool, true, false, cond}
 use Prim.Native.Nat.{ℕ, zero, suc, _+_, _-_, _*_, _≤_, _<_}
@@ -9,44 +9,30 @@ use borrow.Author.Tests.{ltb-false, leb-true, leb-false}
 use lib.Dec.{leb, ltb}
 use lib.ListN.{length, getD, take, length-append}
 use lib.Seq.{length-take-le, getD-take}
-use Rattle.words.specs.Words.{u16At, u32At, Bytes}
+use Rattle.words.specs.Words.{u16At, Bytes}
+use Rattle.words.proofs.Tests.{by-test}
 use Rattle.words.proofs.Laws.{bytes-getD, bytes-take}
 use Rattle.answer.specs.Answer.{number}
 use Rattle.answer.proofs.Laws.{size-in}
 use Rattle.answer.specs.declared.Refusal.{Refusal}
 use Rattle.answer.specs.declared.Refusal.the-variants.{ShortSlice, BadSize, NoRoom, Cut, WrongType, SmallSize, BodyEnds, ZeroCount, PastWidth, PastHeight, BadWord, PastPalette, OverLevel, BadHeader, FewFrames, BadRing, BadTrailer, WrongTime}
-use Rattle.answer.specs.declared.Answer.{Answer}
-use Rattle.answer.specs.declared.Answer.the-variants.{Done, Refused}
-use Rattle.frame.specs.Frame.{headerAt}
-use Rattle.frame.specs.declared.Header.{Header}
-use Rattle.frame.specs.declared.Header.the-variants.{Fault, Chunk}
-use Rattle.frame.proofs.Laws.{header-in}
-use Rattle.walk.specs.Head.{headOf}
-use Rattle.walk.specs.declared.Head.{Head}
-use Rattle.walk.specs.declared.Head.the-variants as head
-use Rattle.walk.specs.Walk.{topFrames}
-use Rattle.walk.proofs.Laws.{ReelIn, HeadIn, head-in, AnswerIn, frames-place}
+use Rattle.chunks.specs.Headers.{headerAt}
+use Rattle.chunks.specs.declared.Header.{Header}
+use Rattle.chunks.specs.declared.Header.the-variants.{Fault, Chunk}
+use Rattle.chunks.proofs.Headers.{header-in}
+use Rattle.reel_header.specs.Head.{headOf}
+use Rattle.reel_header.specs.declared.Head.{Head}
+use Rattle.reel_header.specs.declared.Head.the-variants as head
+use Rattle.chunks.specs.Spans.{HEADER-BYTES, extent}
+use Rattle.chunks.specs.declared.Extent.{Extent}
+use Rattle.chunks.specs.declared.Extent.the-variants as extent-is
+use Rattle.reel_header.proofs.Laws.{ReelIn, HeadIn, head-in}
+use Rattle.chunks.proofs.Spans.{extent-in, extent-refused}
 use Rattle.text.specs.Text.{headLine, chunkLine, okLine, refusedLine}
 use Rattle.text.proofs.Laws.{head-short, chunk-short, refused-short}
-use Rattle.listing.specs.Listing.{headBytes, countAt, opens, afterChild, childrenBy, inside, containerOf, childrenOf, ringEnd, chunkLines, walkLines, headLines, listing}
+use Rattle.listing.specs.Listing.{headBytes, countAt, opens, afterChild, childrenBy, inside, containerOf, childrenOf, chunkLines, walkLines, headLines, listing}
 use Rattle.listing.specs.Room.{Listed}
-use Rattle.listing.proofs.Laws.{head-bytes-in, ring-in, chunk-lines-are, listing-long, listing-head}
-
--- the kind in a header
-
-abbrev KindIn : List ℕ → ℕ → Header → Type 0
-KindIn b at (Fault e) = Unit {0}
-KindIn b at (Chunk kind end) = kind ≡ u16At b (at + 4)
-
-header-kind : (b : List ℕ) (at : ℕ) (x : Header) → headerAt b at ≡ x → KindIn b at x
-unfolding headerAt
-header-kind b at x e = subst (KindIn b at) e (by (leb (at + 6) (length b)) (leb 6 (u32At b at)) (leb (at + u32At b at) (length b)))
-  where
-    by : (a s l : Bool) → KindIn b at (cond a (cond s (cond l (Chunk (u16At b (at + 4)) (at + u32At b at)) (Fault Cut)) (Fault SmallSize)) (Fault Cut))
-    by false s l = tt
-    by true false l = tt
-    by true true false = tt
-    by true true true = refl
+use Rattle.listing.proofs.Laws.{head-bytes-in, chunk-lines-are, listing-long, listing-head}
 
 -- a chunk that lies within the first to bytes, and its line
 pub record Child (depth to at kind end : ℕ) : Type 0 where
@@ -63,7 +49,7 @@ module _ (b : List ℕ) (bytes : (i : ℕ) → getD b i 0 < 256) (few : length b
       let within : end ≤ to = omega (arith, i .1, length-take-le to b w) in
       let low = getD-take to b (at + 4) 0 (omega arith) in
       let high = getD-take to b (at + 4 + 1) 0 (omega arith) in
-      let small : kind < 65536 = omega (arith, header-kind (take to b) at _ there, low, high, bytes (at + 4), bytes (at + 4 + 1)) in
+      let small : kind < 65536 = omega (arith, i .2, low, high, bytes (at + 4), bytes (at + 4 + 1)) in
       record { long = long; within = within; line = chunk-short depth at kind (end - at) (omega arith) (omega arith) (omega arith) (omega arith) }
 
   -- what is inside a chunk takes no more than its line leaves
@@ -99,18 +85,15 @@ module _ (b : List ℕ) (bytes : (i : ℕ) → getD b i 0 < 256) (few : length b
   inside-by : (levels depth : ℕ) → depth + levels ≤ 8 → Short (inside levels b depth)
   unfolding inside Short
   inside-by zero depth h at end kind i w = omega arith
-  inside-by (suc levels) depth h at end kind i w = by (ltb (end - at) (headBytes kind)) refl (inside-by levels (depth + 1) (omega arith))
-    where
-      children : List ℕ
-      children = childrenBy (inside levels b (depth + 1)) b (depth + 1) kind end (countAt b at kind) (at + headBytes kind)
-
-      by : (t : Bool) → ltb (end - at) (headBytes kind) ≡ t → Short (inside levels b (depth + 1)) → 6 * length (cond t [] children) ≤ 20 * (end - at - 6)
-      by true p s = omega arith
-      by false p s =
-          let l = ltb-false (end - at) (headBytes kind) p in
-          let k = head-bytes-in kind in
-          let c = children-by (inside levels b (depth + 1)) s (depth + 1) kind end (countAt b at kind) (at + headBytes kind) (omega arith) (omega arith) w in
-          omega arith
+  inside-by (suc levels) depth h at end kind i w =
+      let children = childrenBy (inside levels b (depth + 1)) b (depth + 1) kind end (countAt b at kind) (at + headBytes kind) in
+      by-test (λ (t : Bool). 6 * length (cond t [] children) ≤ 20 * (end - at - 6)) (ltb (end - at) (headBytes kind))
+      (λ p. omega arith)
+      (λ p.
+      let l = ltb-false (end - at) (headBytes kind) p in
+      let k = head-bytes-in kind in
+      let c = children-by (inside levels b (depth + 1)) (inside-by levels (depth + 1) (omega arith)) (depth + 1) kind end (countAt b at kind) (at + headBytes kind) (omega arith) (omega arith) w in
+      omega arith)
 
   module _ (depth : ℕ) (shallow : depth ≤ 8) where
     pub opened-short : (t : Bool) (to at kind end : ℕ) → to ≤ length b → Child depth to at kind end
@@ -134,10 +117,10 @@ listed-head b w h frames l =
     let s = size-in w h (l .sized) in
     head-short w h frames (omega (arith, s .1)) (omega (arith, s .3)) (omega (arith, l .few))
 
-pub reel-short : (b : List ℕ) → ((i : ℕ) → getD b i 0 < 256) → (w h frames end n : ℕ) → Listed b w h frames → 128 ≤ end → end ≤ length b
-    → length (headLine w h frames) + length (childrenOf b 0 0 end n 128) + 3 ≤ 218047
+pub reel-short : (b : List ℕ) → ((i : ℕ) → getD b i 0 < 256) → (w h frames end n : ℕ) → Listed b w h frames → HEADER-BYTES ≤ end → end ≤ length b
+    → length (headLine w h frames) + length (childrenOf b 0 0 end n HEADER-BYTES) + 3 ≤ 218047
 reel-short b bytes w h frames end n l least most =
-    omega (arith, l .short, listed-head b w h frames l, children-short b bytes (l .short) 0 (omega arith) 0 end n 128 least most)
+    omega (arith, l .short, listed-head b w h frames l, children-short b bytes (l .short) 0 (omega arith) 0 end n HEADER-BYTES least most)
 
 -- a refused line
 
@@ -166,30 +149,30 @@ refusal-short e place h = refused-short (number e) place (number-small e) (omega
 
 -- the whole listing
 
-walked-short : (b : List ℕ) → Bytes b → (w h frames : ℕ) → Listed b w h frames → (a : Answer) → AnswerIn b a → length (walkLines b w h frames a) ≤ 218047
-walked-short b bytes w h frames l Done i =
-    let end = ringEnd b (frames + 1) 128 in
-    let j = ring-in b (frames + 1) 128 (l .long) end refl in
-    let e = chunk-lines-are b frames end (length b) refl refl in
+walked-short : (b : List ℕ) → Bytes b → (w h frames : ℕ) → Listed b w h frames → (x : Extent) → extent b (suc frames) HEADER-BYTES ≡ x
+    → length (walkLines b w h frames x) ≤ 218047
+walked-short b bytes w h frames l (extent-is.End end) q =
+    let j = extent-in b (suc frames) HEADER-BYTES (l .long) end q in
+    let e = chunk-lines-are b end (length b) refl in
     omega (
       arith,
       reel-short b (λ k. bytes-getD b k bytes) w h frames end (length b) l (j .0) (j .1),
       ap length e,
-      length-append (headLine w h frames) (chunkLines b frames ++ okLine),
-      length-append (chunkLines b frames) okLine,
+      length-append (headLine w h frames) (chunkLines b end ++ okLine),
+      length-append (chunkLines b end) okLine,
     )
-walked-short b bytes w h frames l (Refused e place) i = omega (arith, refusal-short e place (omega (arith, l .short)))
+walked-short b bytes w h frames l (extent-is.Fault e place) q =
+    omega (arith, refusal-short e place (omega (arith, l .short, extent-refused b (suc frames) HEADER-BYTES (l .long) e place q)))
 
 headed-short : (b : List ℕ) → Bytes b → length b ≤ 65536 → (x : Head) → HeadIn b x → length (headLines b x) ≤ 218047
 headed-short b bytes few (head.Fault e) i = omega (arith, refusal-short e 0 (omega arith))
-headed-short b bytes few (head.Reel w h frames size) i =
+headed-short b bytes few (head.Reel w h frames size speed) i =
     let l = listed-in b w h frames size size few i refl in
-    walked-short (take size b) (bytes-take size b bytes) w h frames l (topFrames (take size b) (suc frames) 128 .answer) (frames-place (suc frames) (take size b) 128 (l .long))
+    walked-short (take size b) (bytes-take size b bytes) w h frames l _ refl
 
 -- a listing of bytes fits into 218,047
 pub listing-short : (b : List ℕ) → Bytes b → length (listing b) ≤ 218047
-listing-short b bytes = by (leb (length b) 65536) refl
-  where
-    by : (t : Bool) → leb (length b) 65536 ≡ t → length (listing b) ≤ 218047
-    by true p = let few = leb-true (length b) 65536 p in omega (arith, ap length (listing-head b few _ refl), headed-short b bytes few (headOf b) (head-in b _ refl))
-    by false p = omega (arith, ap length (listing-long b (leb-false (length b) 65536 p)), refusal-short NoRoom 0 (omega arith))
+listing-short b bytes =
+    by-test (λ (t : Bool). length (listing b) ≤ 218047) (leb (length b) 65536)
+    (λ p. let few = leb-true (length b) 65536 p in omega (arith, ap length (listing-head b few _ refl), headed-short b bytes few (headOf b) (head-in b _ refl)))
+    (λ p. omega (arith, ap length (listing-long b (leb-false (length b) 65536 p)), refusal-short NoRoom 0 (omega arith)))

@@ -4,22 +4,20 @@ use mathlib.Core.List.{List, [], _++_}
 use mathlib.Core.Bool.{Bool, not, true, cond}
 use lib.Dec.{leb, ltb, eqb}
 use lib.ListN.{length, take}
-use Rattle.words.specs.Words.{u16At}
+use Rattle.words.specs.Words.{require_else_then_, u16At}
 use Rattle.answer.specs.Answer.{number}
 use Rattle.answer.specs.Format.{FRAME-TYPE, PREFIX-TYPE, FLI-PSTAMP}
 use Rattle.answer.specs.declared.Refusal.the-variants.{NoRoom}
-use Rattle.answer.specs.declared.Answer.{Answer}
-use Rattle.answer.specs.declared.Answer.the-variants.{Done, Refused}
-use Rattle.frame.specs.Frame.{headerAt}
-use Rattle.frame.specs.declared.Header.{Header}
-use Rattle.frame.specs.declared.Header.the-variants as chunk
+use Rattle.chunks.specs.Headers.{headerAt}
+use Rattle.chunks.specs.declared.Header.{Header}
+use Rattle.chunks.specs.declared.Header.the-variants as chunk
 use Rattle.house.specs.Writing.{Output, fitted}
-use Rattle.walk.specs.Head.{headOf}
-use Rattle.walk.specs.Walk.{nextAt, topFrames}
-use Rattle.walk.specs.declared.Head.{Head}
-use Rattle.walk.specs.declared.Head.the-variants as head
-use Rattle.walk.specs.declared.Next.{Next}
-use Rattle.walk.specs.declared.Next.the-variants.{Fault, Frame}
+use Rattle.reel_header.specs.Head.{headOf}
+use Rattle.chunks.specs.Spans.{HEADER-BYTES, extent}
+use Rattle.chunks.specs.declared.Extent.{Extent}
+use Rattle.chunks.specs.declared.Extent.the-variants.{Fault, End}
+use Rattle.reel_header.specs.declared.Head.{Head}
+use Rattle.reel_header.specs.declared.Head.the-variants as head
 use Rattle.text.specs.Text.{headLine, chunkLine, okLine, refusedLine}
 
 -- "Chunks of kind 61696 and 61946 hold children after 16 bytes, as many as their count; kind 18 holds one after 12"
@@ -63,38 +61,28 @@ containerOf b depth = inside (8 - depth) b depth
 abbrev pub childrenOf : List ℕ → ℕ → ℕ → ℕ → ℕ → ℕ → List ℕ
 childrenOf b depth = childrenBy (inside (8 - depth) b depth) b depth
 
--- where the last of count frames from offset at on ends
-abbrev pub afterFrame : ℕ → Next → (ℕ → ℕ) → ℕ
-afterFrame at (Fault e place) rest = at
-afterFrame at (Frame from end) rest = rest end
-
-unfoldable pub ringEnd : List ℕ → ℕ → ℕ → ℕ
-unfolding nextAt
-ringEnd b zero at = at
-ringEnd b (suc count) at = afterFrame at (nextAt b at) (λ end. ringEnd b count end)
-
--- "It lists up to the ring": all top-level chunks of the reel b (no more than its bytes) that end where the ring does or before
+-- "It lists up to the ring", which ends at offset end: all top-level chunks of the reel b (no more than its bytes) that end there or before
 unfoldable pub chunkLines : List ℕ → ℕ → List ℕ
-unfolding childrenBy inside ringEnd
-chunkLines b frames = childrenOf b 0 0 (ringEnd b (suc frames) 128) (length b) 128
+unfolding childrenBy inside
+chunkLines b end = childrenOf b 0 0 end (length b) HEADER-BYTES
 
-abbrev pub walkLines : List ℕ → ℕ → ℕ → ℕ → Answer → List ℕ
-walkLines b w h frames Done = headLine w h frames ++ (chunkLines b frames ++ okLine)
-walkLines b w h frames (Refused e place) = refusedLine (number e) place
+abbrev pub walkLines : List ℕ → ℕ → ℕ → ℕ → Extent → List ℕ
+walkLines b w h frames (End end) = headLine w h frames ++ (chunkLines b end ++ okLine)
+walkLines b w h frames (Fault e place) = refusedLine (number e) place
 
 -- "either one line `refused N PLACE`, or the header line (width, height, frames), one line a chunk .. and `ok`"; "the other refusals are the trailer
 -- walk's, the trailer itself unread"
 abbrev pub headLines : List ℕ → Head → List ℕ
 headLines b (head.Fault e) = refusedLine (number e) 0
-headLines b (head.Reel w h frames size) = walkLines (take size b) w h frames (topFrames (take size b) (suc frames) 128 .answer)
+headLines b (head.Reel w h frames size speed) = walkLines (take size b) w h frames (extent (take size b) (suc frames) HEADER-BYTES)
 
 -- "reads up to 65,536 bytes .. Input past that is refused 3, place 0"
 abbrev pub LIST-INPUT : ℕ
 LIST-INPUT = 65536
 
 unfoldable pub listing : List ℕ → List ℕ
-unfolding headLine refusedLine chunkLines headOf topFrames
-listing b = cond (leb (length b) LIST-INPUT) (headLines b (headOf b)) (refusedLine (number NoRoom) 0)
+unfolding headLine refusedLine chunkLines headOf extent
+listing b = require leb (length b) LIST-INPUT else refusedLine (number NoRoom) 0 then headLines b (headOf b)
 
 -- the text at the front of the output and its rest unchanged, or refusal 3 where the output is shorter than the text
 unfoldable pub list : List ℕ → List ℕ → Output

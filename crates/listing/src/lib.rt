@@ -4,17 +4,18 @@ ghost use Prim.Native.Nat.{_+_, _*_, _-_, _<_, _≤_};
 ghost use lib.ListN.{length};
 ghost use Rattle.house.specs.Writing.{output};
 ghost use Rattle.text.specs.Stored.{Stored};
-ghost use Rattle.listing.specs.Listing.{headBytes, countAt, opens, containerOf, childrenOf, ringEnd, listing, list};
+ghost use Rattle.chunks.specs.Spans.{HEADER-BYTES};
+ghost use Rattle.listing.specs.Listing.{headBytes, countAt, opens, containerOf, childrenOf, listing, list};
 ghost use Rattle.listing.specs.Room.{Listed, reelLines};
-use answer::Answer;
 use answer::FLI_PSTAMP;
 use answer::FRAME_TYPE;
 use answer::PREFIX_TYPE;
 use answer::Refusal;
 use answer::Written;
-use frame::Header;
-use walk::Head;
-use walk::Next;
+use chunks::Extent;
+use chunks::HEADER_BYTES;
+use chunks::Header;
+use reel_header::Head;
 
 // The most bytes of the input.
 pub const LIST_INPUT: usize = 65536;
@@ -94,7 +95,7 @@ fn list_children(
     let mut left = count;
     let mut n = start;
     while left > 0 {
-        match frame::header_at(&b[0..to], at) {
+        match chunks::header_at(&b[0..to], at) {
             Header::Fault(_) => {
                 return n;
             }
@@ -111,35 +112,20 @@ fn list_children(
     n
 }
 
-// Where the last of count frames of b ends.
-fn ring_end(b: &[u8], count: usize) -> usize
-    requires { ⌜ 128 ≤ length (now b) ⌝ }
-    ensures { λ r. ⌜ r ≡ ringEnd (now (b .entry)) count 128 ⌝ }
-{
-    let mut at = 128;
-    let mut left = count;
-    while left > 0 {
-        match walk::next_at(b, at) {
-            Next::Fault(_, _) => {
-                return at;
-            }
-            Next::Frame { from: _, end } => {
-                at = end;
-            }
-        }
-        left = left - 1;
-    }
-    at
-}
-
-// Lists the chunks of the reel b.
-fn list_reel(out: &mut [u8], b: &[u8], width: usize, height: usize, frames: usize) -> usize
-    requires { ⌜ Listed (now b) width height frames × (218047 ≤ length (now out)) ⌝ }
-    ensures { λ r. ⌜ Stored (now (out .entry)) 0 (reelLines (now (b .entry)) width height frames) (now (out .exit)) r ⌝ }
+// Lists the chunks of the reel b up to the ring, which ends at offset end.
+fn list_reel(
+    out: &mut [u8],
+    b: &[u8],
+    width: usize,
+    height: usize,
+    frames: usize,
+    end: usize,
+) -> usize
+    requires { ⌜ Listed (now b) width height frames × (HEADER-BYTES ≤ end) × (end ≤ length (now b)) × (218047 ≤ length (now out)) ⌝ }
+    ensures { λ r. ⌜ Stored (now (out .entry)) 0 (reelLines (now (b .entry)) width height frames end) (now (out .exit)) r ⌝ }
 {
     let n = text::put_head(out, width, height, frames);
-    let end = ring_end(b, frames + 1);
-    let m = list_children(out, n, b, 0, 0, end, b.len(), 128);
+    let m = list_children(out, n, b, 0, 0, end, b.len(), HEADER_BYTES);
     text::put_ok(out, m)
 }
 
@@ -151,16 +137,17 @@ fn list_text(out: &mut [u8], bytes: &[u8]) -> usize
     if bytes.len() > LIST_INPUT {
         return text::put_refused(out, Refusal::NoRoom, 0);
     }
-    match walk::head_of(bytes) {
+    match reel_header::head_of(bytes) {
         Head::Fault(e) => text::put_refused(out, e, 0),
         Head::Reel {
             width,
             height,
             frames,
             size,
-        } => match walk::walk_frames(&bytes[0..size], frames + 1) {
-            Answer::Refused(e, place) => text::put_refused(out, e, place),
-            Answer::Done => list_reel(out, &bytes[0..size], width, height, frames),
+            speed: _,
+        } => match chunks::walk_frames(&bytes[0..size], frames + 1) {
+            Extent::Fault(e, place) => text::put_refused(out, e, place),
+            Extent::End(end) => list_reel(out, &bytes[0..size], width, height, frames, end),
         },
     }
 }

@@ -1,17 +1,18 @@
 -- The check of a whole reel: the answer, and what both working pairs hold afterwards.
 use Prim.Native.Nat.{ℕ, _*_}
 use mathlib.Core.List.{List, _++_}
-use mathlib.Core.Bool.{false, _&&_, cond}
+use mathlib.Core.Bool.{_&&_, cond}
 use lib.ListN.{take, drop}
-use Rattle.words.specs.Words.{same}
+use Rattle.words.specs.Words.{require_else_then_, same}
 use Rattle.answer.specs.Answer.{Said, State, told}
 use Rattle.answer.specs.declared.Refusal.the-variants.{ShortSlice, BadRing}
 use Rattle.answer.specs.declared.Answer.{Answer}
 use Rattle.answer.specs.declared.Answer.the-variants.{Done, Refused}
 use Rattle.frame.specs.Reading.{enough}
-use Rattle.walk.specs.Head.{headOf}
-use Rattle.walk.specs.declared.Head.{Head}
-use Rattle.walk.specs.declared.Head.the-variants.{Fault, Reel}
+use Rattle.reel_header.specs.Head.{headOf}
+use Rattle.reel_header.specs.declared.Head.{Head}
+use Rattle.reel_header.specs.declared.Head.the-variants.{Fault, Reel}
+use Rattle.chunks.specs.declared.Layout.the-variants.{Loose}
 use Rattle.reel.specs.declared.Ran.{Ran}
 use Rattle.reel.specs.declared.Ran.the-variants.{Stopped, To}
 use Rattle.reel.specs.Play.{Shown, playAll}
@@ -48,10 +49,9 @@ checkedBy n x p q p′ q′ = laid n (ringAnswer x) (x .last) (x .one) p q p′ 
 -- "2, 14, 1, then chunks from the front"; "frames + 1 are read, the last being the ring; what follows up to the size is ignored"
 abbrev pub afterHead : List ℕ → Head → List ℕ → List ℕ → List ℕ → List ℕ → Checked
 afterHead b (Fault e) p q p′ q′ = checked (Refused e 0) p q p′ q′
-afterHead b (Reel w h count size) p q p′ q′ =
-    cond (enough (w * h) p q && enough (w * h) p′ q′)
-    (checkedBy (w * h) (playAll false count w h (take size b)) p q p′ q′)
-    (checked (Refused ShortSlice 0) p q p′ q′)
+afterHead b (Reel w h count size speed) p q p′ q′ =
+    require enough (w * h) p q && enough (w * h) p′ q′ else checked (Refused ShortSlice 0) p q p′ q′ then
+    checkedBy (w * h) (playAll Loose count w h (take size b)) p q p′ q′
 
 unfoldable pub checkReel : List ℕ → List ℕ → List ℕ → List ℕ → List ℕ → Checked
 unfolding headOf playAll

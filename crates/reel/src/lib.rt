@@ -1,17 +1,21 @@
 // Playing the frames of a reel, and the check of a whole reel: document 01, "Reels and the trailer".
 ghost use mathlib.Core.Path.{_≡_};
-ghost use mathlib.Core.Bool.{false, _&&_};
+ghost use mathlib.Core.Bool.{_&&_};
 ghost use Prim.Native.Nat.{_*_, _≤_};
 ghost use lib.ListN.{length};
 ghost use Rattle.words.specs.Words.{same};
 ghost use Rattle.answer.specs.Answer.{blank, state};
+ghost use Rattle.chunks.specs.declared.Layout.the-variants.{Loose};
+ghost use Rattle.chunks.specs.Spans.{HEADER-BYTES};
 ghost use Rattle.reel.specs.Play.{Exact, ran, oneFrame, frames, shown, playAll};
 ghost use Rattle.reel.specs.Check.{ringAnswer, checked, checkReel};
 use answer::Answer;
 use answer::PALETTE_BYTES;
 use answer::Refusal;
-use walk::Head;
-use walk::Next;
+use chunks::HEADER_BYTES;
+use chunks::Layout;
+use chunks::Next;
+use reel_header::Head;
 
 // What a run of frames came to: the first refusal with its place, or where the last frame begins and ends.
 pub enum Ran {
@@ -19,20 +23,20 @@ pub enum Ran {
     To { last: usize, next: usize },
 }
 
-// Plays the next frame from offset at on; packed: frames lie back to back.
+// Plays the next frame from offset at on.
 pub fn one_frame(
     picture: &mut [u8],
     palette: &mut [u8],
     b: &[u8],
-    packed: bool,
+    layout: Layout,
     at: usize,
     width: usize,
     height: usize,
 ) -> Ran
     requires { ⌜ (at ≤ length (now b)) × Exact width height (now picture) (now palette) ⌝ }
-    ensures { λ r. ⌜ ran r (state (now (picture .exit)) (now (palette .exit))) ≡ oneFrame packed width height (now (b .entry)) at (state (now (picture .entry)) (now (palette .entry))) ⌝ }
+    ensures { λ r. ⌜ ran r (state (now (picture .exit)) (now (palette .exit))) ≡ oneFrame layout width height (now (b .entry)) at (state (now (picture .entry)) (now (palette .entry))) ⌝ }
 {
-    match walk::step_at(b, packed, at) {
+    match chunks::step_at(b, layout, at) {
         Next::Fault(e, place) => Ran::Stopped(e, place),
         Next::Frame { from, end } => match frame::check_frame(&b[from..end], width, height) {
             Answer::Refused(e, place) => Ran::Stopped(e, from + place),
@@ -52,7 +56,7 @@ fn play_frames(
     picture: &mut [u8],
     palette: &mut [u8],
     b: &[u8],
-    packed: bool,
+    layout: Layout,
     count: usize,
     before: usize,
     start: usize,
@@ -60,13 +64,13 @@ fn play_frames(
     height: usize,
 ) -> Ran
     requires { ⌜ (start ≤ length (now b)) × Exact width height (now picture) (now palette) ⌝ }
-    ensures { λ r. ⌜ ran r (state (now (picture .exit)) (now (palette .exit))) ≡ frames packed width height (now (b .entry)) count before start (state (now (picture .entry)) (now (palette .entry))) ⌝ }
+    ensures { λ r. ⌜ ran r (state (now (picture .exit)) (now (palette .exit))) ≡ frames layout width height (now (b .entry)) count before start (state (now (picture .entry)) (now (palette .entry))) ⌝ }
 {
     let mut last = before;
     let mut at = start;
     let mut left = count;
     while left > 0 {
-        match one_frame(picture, palette, b, packed, at, width, height) {
+        match one_frame(picture, palette, b, layout, at, width, height) {
             Ran::Stopped(e, place) => {
                 return Ran::Stopped(e, place);
             }
@@ -96,17 +100,17 @@ fn play_first(
     picture2: &mut [u8],
     palette2: &mut [u8],
     b: &[u8],
-    packed: bool,
+    layout: Layout,
     width: usize,
     height: usize,
 ) -> Ran
-    requires { ⌜ (128 ≤ length (now b)) × Exact width height (now picture) (now palette) × Exact width height (now picture2) (now palette2) ⌝ }
-    ensures first { λ r. ⌜ ran r (state (now (picture .exit)) (now (palette .exit))) ≡ oneFrame packed width height (now (b .entry)) 128 (blank (width * height)) ⌝ }
+    requires { ⌜ (HEADER-BYTES ≤ length (now b)) × Exact width height (now picture) (now palette) × Exact width height (now picture2) (now palette2) ⌝ }
+    ensures first { λ r. ⌜ ran r (state (now (picture .exit)) (now (palette .exit))) ≡ oneFrame layout width height (now (b .entry)) HEADER-BYTES (blank (width * height)) ⌝ }
     ensures picture { λ _. ⌜ now (picture2 .exit) ≡ now (picture .exit) ⌝ }
     ensures palette { λ _. ⌜ now (palette2 .exit) ≡ now (palette .exit) ⌝ }
 {
     clear(picture, palette, width, height);
-    let ran = one_frame(picture, palette, b, packed, 128, width, height);
+    let ran = one_frame(picture, palette, b, layout, HEADER_BYTES, width, height);
     words::copy(picture2, picture);
     words::copy(palette2, palette);
     ran
@@ -119,13 +123,13 @@ pub fn play_all(
     picture2: &mut [u8],
     palette2: &mut [u8],
     b: &[u8],
-    packed: bool,
+    layout: Layout,
     more: usize,
     width: usize,
     height: usize,
 ) -> Ran
-    requires { ⌜ (128 ≤ length (now b)) × Exact width height (now picture) (now palette) × Exact width height (now picture2) (now palette2) ⌝ }
-    ensures { λ r. ⌜ shown r (state (now (picture .exit)) (now (palette .exit))) (state (now (picture2 .exit)) (now (palette2 .exit))) ≡ playAll packed more width height (now (b .entry)) ⌝ }
+    requires { ⌜ (HEADER-BYTES ≤ length (now b)) × Exact width height (now picture) (now palette) × Exact width height (now picture2) (now palette2) ⌝ }
+    ensures { λ r. ⌜ shown r (state (now (picture .exit)) (now (palette .exit))) (state (now (picture2 .exit)) (now (palette2 .exit))) ≡ playAll layout more width height (now (b .entry)) ⌝ }
 {
     match play_first(
         picture,
@@ -133,7 +137,7 @@ pub fn play_all(
         picture2,
         palette2,
         b,
-        packed,
+        layout,
         width,
         height,
     ) {
@@ -142,7 +146,7 @@ pub fn play_all(
             picture,
             palette,
             b,
-            packed,
+            layout,
             more,
             last,
             next,
@@ -174,10 +178,10 @@ fn check_frames(
     width: usize,
     height: usize,
 ) -> Answer
-    requires { ⌜ (128 ≤ length (now b)) × Exact width height (now picture) (now palette) × Exact width height (now picture2) (now palette2) ⌝ }
-    ensures answer { λ r. ⌜ r ≡ ringAnswer (playAll false count width height (now (b .entry))) ⌝ }
-    ensures first { λ _. ⌜ state (now (picture .exit)) (now (palette .exit)) ≡ playAll false count width height (now (b .entry)) .last ⌝ }
-    ensures second { λ _. ⌜ state (now (picture2 .exit)) (now (palette2 .exit)) ≡ playAll false count width height (now (b .entry)) .one ⌝ }
+    requires { ⌜ (HEADER-BYTES ≤ length (now b)) × Exact width height (now picture) (now palette) × Exact width height (now picture2) (now palette2) ⌝ }
+    ensures answer { λ r. ⌜ r ≡ ringAnswer (playAll Loose count width height (now (b .entry))) ⌝ }
+    ensures first { λ _. ⌜ state (now (picture .exit)) (now (palette .exit)) ≡ playAll Loose count width height (now (b .entry)) .last ⌝ }
+    ensures second { λ _. ⌜ state (now (picture2 .exit)) (now (palette2 .exit)) ≡ playAll Loose count width height (now (b .entry)) .one ⌝ }
 {
     match play_all(
         picture,
@@ -185,7 +189,7 @@ fn check_frames(
         picture2,
         palette2,
         b,
-        false,
+        Layout::Loose,
         count,
         width,
         height,
@@ -211,13 +215,14 @@ pub fn check_reel(
     ensures { λ r. ⌜ checked r (now («first_picture» .exit)) (now («first_palette» .exit)) (now («second_picture» .exit)) (now («second_palette» .exit))
         ≡ checkReel (now (bytes .entry)) (now («first_picture» .entry)) (now («first_palette» .entry)) (now («second_picture» .entry)) (now («second_palette» .entry)) ⌝ }
 {
-    match walk::head_of(bytes) {
+    match reel_header::head_of(bytes) {
         Head::Fault(e) => Answer::Refused(e, 0),
         Head::Reel {
             width,
             height,
             frames,
             size,
+            speed: _,
         } => {
             let n = width * height;
             if !frame::holds(first_picture.len(), first_palette.len(), n) {

@@ -1,29 +1,29 @@
 -- The sub-chunks of a frame by their headers: those of a frame that was put together, and the one of a frame that holds a single one.
 use mathlib.Core.Path.{_≡_, refl, sym, ap, _∙_, subst}
 use mathlib.Core.List.{List, [], _∷_, _++_, flatten}
-use mathlib.Core.Bool.{Bool, true, false, cond}
-use Prim.Native.Nat.{ℕ, zero, suc, _+_, _-_, _<_}
+use Prim.Native.Nat.{ℕ, suc, _+_, _-_, _<_}
+use native.Mathlib.Nat.{add-sub-cancel-left}
 use native.Mathlib.Omega.{arith}
-use lib.Dec.{leb}
 use lib.ListN.{length, take, drop}
 use lib.Seq.{take-all}
-use Rattle.words.specs.Words.{u16At, u32At, part, chunk}
+use Rattle.words.specs.Words.{part, chunk}
 use Rattle.words.proofs.Laws.{span-length}
 use Rattle.answer.specs.declared.Refusal.{Refusal}
-use Rattle.answer.specs.declared.Refusal.the-variants.{Cut, SmallSize}
 use Rattle.answer.specs.declared.Verdict.{Verdict}
 use Rattle.answer.specs.declared.Verdict.the-variants as verdict
 use Rattle.answer.specs.declared.Answer.{Answer}
 use Rattle.answer.specs.declared.Answer.the-variants.{Done, Refused}
-use Rattle.frame.specs.Frame.{FrameWalk, headerAt, settle, followed, afterHeader, subChunk, subChunks, frameHeader, afterFrameHeader, frame}
-use Rattle.frame.specs.declared.FrameHeader.{FrameHeader}
-use Rattle.frame.specs.declared.FrameHeader.the-variants as whole
-use Rattle.frame.specs.declared.Header.{Header}
-use Rattle.frame.specs.declared.Header.the-variants.{Fault, Chunk}
-use Rattle.frame.proofs.Laws.{header-in}
+use Rattle.chunks.specs.Headers.{headerAt, frameHeader}
+use Rattle.chunks.specs.Spans.{Span, Spans, subSpans}
+use Rattle.chunks.specs.declared.FrameHeader.{FrameHeader}
+use Rattle.chunks.specs.declared.FrameHeader.the-variants as whole
+use Rattle.chunks.specs.declared.Header.the-variants.{Chunk}
+use Rattle.chunks.proofs.Headers.{header-in}
+use Rattle.chunks.proofs.Spans.{subs-none, subs-step, subs-by}
+use Rattle.frame.specs.Frame.{FrameWalk, settle, followed, acted, subChunk, subChunks, afterFrameHeader, frame}
 use Rattle.house.specs.House.{framed}
-use Rattle.roundtrip.proofs.Frames.{chunk-there, more-there, chunk-size, framed-header, framed-subs}
-use Rattle.rewrite.specs.Demand3.{Sub, afterSub, subsAt, afterWhole, subsOf}
+use Rattle.roundtrip.proofs.Frames.{chunk-there, more-there, framed-header, framed-subs}
+use Rattle.rewrite.specs.Demand3.{Sub, sized, subsAt, afterWhole, subsOf}
 
 never : {C A : Type 0} {x : A} {xs : List A} → [] ≡ x ∷ xs → C
 never e = let z : _≡_ {A = ℕ} 0 1 = cc in absurd (omega arith)
@@ -46,13 +46,24 @@ pub data Described : List (List ℕ) → List Sub → Type 0 where
   more : {subs : List (List ℕ)} {ks : List Sub} (kind : ℕ) (body : List ℕ) → 6 + length body < 4294967296 → Described subs ks
       → Described (chunk kind body ∷ subs) (record { kind = kind; size = 6 + length body } ∷ ks)
 
+subs-more : (b : List ℕ) (n at kind end : ℕ) → headerAt b at ≡ Chunk kind end → subsAt b (suc n) at ≡ record { kind = kind; size = end - at } ∷ subsAt b n end
+unfolding subsAt
+subs-more b n at kind end q =
+    let k : suc n - 1 ≡ n = omega arith in
+    ap (λ (x : Spans). sized (x .met)) (subs-step b (suc n) at (omega arith) (Chunk kind end) q)
+    ∙ ap (λ (m : ℕ). record { kind = kind; size = end - at } ∷ sized (subSpans b m end .met)) k
+
+subs-over : (b : List ℕ) (at : ℕ) → subsAt b 0 at ≡ []
+unfolding subsAt
+subs-over b at = ap (λ (x : Spans). sized (x .met)) (subs-none b 0 at (omega arith))
+
 described : {subs : List (List ℕ)} {ks : List Sub} → Described subs ks → (b : List ℕ) (at : ℕ) → drop at b ≡ flatten subs → subsAt b (length subs) at ≡ ks
-unfolding subsAt flatten
-described none b at e = refl
+unfolding flatten
+described none b at e = subs-over b at
 described (more {subs} {ks} kind body small d) b at e =
     let end = at + (6 + length body) in
-    ap (λ (x : Header). afterSub b at x (λ end. subsAt b (length subs) end)) (chunk-there b at kind body (flatten subs) e small)
-    ∙ ap (λ (n : ℕ). record { kind = kind; size = n } ∷ subsAt b (length subs) end) (chunk-size b at kind body (flatten subs) e small)
+    subs-more b (length subs) at kind end (chunk-there b at kind body (flatten subs) e small)
+    ∙ ap (λ (n : ℕ). record { kind = kind; size = n } ∷ subsAt b (length subs) end) (add-sub-cancel-left at (6 + length body))
     ∙ ap (λ (l : List Sub). record { kind = kind; size = 6 + length body } ∷ l) (described d b end (more-there b at kind body (flatten subs) e small))
 
 pub framed-described : (subs : List (List ℕ)) (ks : List Sub) → 16 + length (flatten subs) < 4294967296 → Described subs ks → subsOf (framed subs) ≡ ks
@@ -64,18 +75,6 @@ framed-described subs ks small d =
 
 -- a frame that holds a single sub-chunk
 
--- where a sub-chunk ends
-header-end : (b : List ℕ) (at kind end : ℕ) → headerAt b at ≡ Chunk kind end → end ≡ at + u32At b at
-unfolding headerAt
-header-end b at kind end e = go (leb (at + 6) (length b)) (leb 6 (u32At b at)) (leb (at + u32At b at) (length b)) e
-  where
-    go : (x y z : Bool) → cond x (cond y (cond z (Chunk (u16At b (at + 4)) (at + u32At b at)) (Fault Cut)) (Fault SmallSize)) (Fault Cut) ≡ Chunk kind end
-        → end ≡ at + u32At b at
-    go false y z f = let n : _≡_ {A = ℕ} 0 1 = cc in absurd (omega arith)
-    go true false z f = let n : _≡_ {A = ℕ} 0 1 = cc in absurd (omega arith)
-    go true true false f = let n : _≡_ {A = ℕ} 0 1 = cc in absurd (omega arith)
-    go true true true f = cc
-
 -- a walk that does what the one sub-chunk of this kind and size does
 pub record Single (w h : ℕ) (f : FrameWalk) (kind size : ℕ) : Type 0 where
   pub body : List ℕ
@@ -84,49 +83,45 @@ pub record Single (w h : ℕ) (f : FrameWalk) (kind size : ℕ) : Type 0 where
   pub ended : subChunk w h kind body .verdict ≡ verdict.Ends end
   pub pixels : f .pixels ≡ subChunk w h kind body .pixels ++ []
 
+settled : (at : ℕ) (v : Verdict) (r : Answer) → settle at v r ≡ Done → ((end : ℕ) × (v ≡ verdict.Ends end)) × (r ≡ Done)
+settled at (verdict.Ends end) r e = ((end, refl), e)
+settled at (verdict.Fault x) r e = refused-not-done e
+
 module _ (w h : ℕ) (b : List ℕ) where
-  -- no sub-chunk left, and accepted
-  chunks-over : (n at : ℕ) → subChunks w h b n at .answer ≡ Done → subsAt b n at ≡ [] → subChunks w h b n at .pixels ≡ []
-  unfolding subChunks subsAt
-  chunks-over zero at a e = refl
-  chunks-over (suc n) at a e = go (headerAt b at) a e
-    where
-      go : (x : Header) → afterHeader w h b at x (λ end. subChunks w h b n end) .answer ≡ Done → afterSub b at x (λ end. subsAt b n end) ≡ []
-          → afterHeader w h b at x (λ end. subChunks w h b n end) .pixels ≡ []
-      go (Fault r) a e = refused-not-done a
-      go (Chunk kind end) a e = never (sym e)
+  -- no sub-chunk left
+  acted-over : (ss : List Span) (a : Answer) → sized ss ≡ [] → acted w h b ss a .pixels ≡ []
+  acted-over [] a e = refl
+  acted-over (s ∷ ss) a e = never (sym e)
 
   chunks-single : (n at kind size : ℕ) → subChunks w h b n at .answer ≡ Done → subsAt b n at ≡ record { kind = kind; size = size } ∷ []
       → Single w h (subChunks w h b n at) kind size
   unfolding subChunks subsAt
-  chunks-single zero at kind size a e = never e
-  chunks-single (suc n) at kind size a e = go (headerAt b at) refl a e
+  chunks-single n at kind size =
+      subs-by b (λ (m k : ℕ) (s : Spans). acted w h b (s .met) (s .answer) .answer ≡ Done → sized (s .met) ≡ record { kind = kind; size = size } ∷ [] → Single w h (acted w h b (s .met) (s .answer)) kind size)
+      (λ k a e. never e) (λ m k r q a e. never e) (λ m k kind′ end i rest a e. one m k kind′ end i a e) n at
     where
-      settled : (v : Verdict) (r : Answer) → settle at v r ≡ Done → ((end : ℕ) × (v ≡ verdict.Ends end)) × (r ≡ Done)
-      settled (verdict.Ends end) r e = ((end, refl), e)
-      settled (verdict.Fault x) r e = refused-not-done e
-
-      go : (x : Header) → headerAt b at ≡ x → afterHeader w h b at x (λ end. subChunks w h b n end) .answer ≡ Done
-          → afterSub b at x (λ end. subsAt b n end) ≡ record { kind = kind; size = size } ∷ []
-          → Single w h (afterHeader w h b at x (λ end. subChunks w h b n end)) kind size
-      go (Fault r) i a e = never e
-      go (Chunk k end) i a e =
-          let this : Sub = record { kind = k; size = u32At b at } in
+      one : (m k kind′ end : ℕ) → headerAt b k ≡ Chunk kind′ end
+          → followed k (subChunk w h kind′ (part b (k + 6) end)) (acted w h b (subSpans b m end .met) (subSpans b m end .answer)) .answer ≡ Done
+          → record { kind = kind′; size = end - k } ∷ sized (subSpans b m end .met) ≡ record { kind = kind; size = size } ∷ []
+          → Single w h (followed k (subChunk w h kind′ (part b (k + 6) end)) (acted w h b (subSpans b m end .met) (subSpans b m end .answer))) kind size
+      one m k kind′ end i a e =
+          let ss = subSpans b m end .met in
+          let this : Sub = record { kind = kind′; size = end - k } in
           let that : Sub = record { kind = kind; size = size } in
-          let first = same-first this that (subsAt b n end) e in
-          let same-kind : k ≡ kind = ap (λ (x : Sub). x .kind) first in
-          let same-size : u32At b at ≡ size = ap (λ (x : Sub). x .size) first in
-          let over = none-left this that (subsAt b n end) e in
-          let body = part b (at + 6) end in
-          let inside = header-in b at (Chunk k end) i in
-          let (went, rest) = settled (subChunk w h k body .verdict) (subChunks w h b n end .answer) a in
-          subst (λ (m : ℕ). Single w h (followed at (subChunk w h k body) (subChunks w h b n end)) m size) same-kind
+          let first = same-first this that (sized ss) e in
+          let same-kind : kind′ ≡ kind = ap (λ (x : Sub). x .kind) first in
+          let same-size : end - k ≡ size = ap (λ (x : Sub). x .size) first in
+          let over = none-left this that (sized ss) e in
+          let body = part b (k + 6) end in
+          let inside = header-in b k (Chunk kind′ end) i in
+          let (went, done) = settled k (subChunk w h kind′ body .verdict) (acted w h b ss (subSpans b m end .answer) .answer) a in
+          subst (λ (x : ℕ). Single w h (followed k (subChunk w h kind′ body) (acted w h b ss (subSpans b m end .answer))) x size) same-kind
           (record {
             body = body;
             end = went .0;
-            long = omega (arith, same-size, header-end b at k end i, inside .0, span-length b (at + 6) end (end - (at + 6)) (inside .1) (omega (arith, inside .0)));
+            long = omega (arith, same-size, inside .0, span-length b (k + 6) end (end - (k + 6)) (inside .1) (omega (arith, inside .0)));
             ended = went .1;
-            pixels = ap (λ (l : List _). subChunk w h k body .pixels ++ l) (chunks-over n end rest over);
+            pixels = ap (λ (l : List _). subChunk w h kind′ body .pixels ++ l) (acted-over ss (subSpans b m end .answer) over);
           })
 
 pub frame-single : (w h : ℕ) (c : List ℕ) (kind size : ℕ) → frame w h c .answer ≡ Done → subsOf c ≡ record { kind = kind; size = size } ∷ []

@@ -1,6 +1,6 @@
 -- Demand 3 of the mission, in terms of `rewriteFrame`, which the contract of `rewrite_frame` equates with the code.
 -- Its words are those of document 01, "Words of demand 3". The theorem is `demand3` (proofs/Demand3.antt).
-use Prim.Native.Nat.{ℕ, zero, suc, _*_, _≤_}
+use Prim.Native.Nat.{ℕ, _*_, _-_, _≤_}
 use mathlib.Core.Path.{_≡_}
 use mathlib.Core.List.{List, [], _∷_}
 use lib.Dec.{eqb}
@@ -9,12 +9,11 @@ use Rattle.words.specs.Words.{u32At, Bytes}
 use mathlib.Core.Bool.{cond}
 use Rattle.answer.specs.Answer.{Said, done, refused, State}
 use Rattle.answer.specs.Format.{FLI-COLOR256, FLI-BLACK, FLI-BRUN, FLI-COPY}
-use Rattle.frame.specs.Frame.{headerAt, frameHeader}
+use Rattle.chunks.specs.Headers.{frameHeader}
+use Rattle.chunks.specs.Spans.{Span, subSpans}
 use Rattle.frame.specs.Reading.{front, readFrame}
-use Rattle.frame.specs.declared.FrameHeader.{FrameHeader}
-use Rattle.frame.specs.declared.FrameHeader.the-variants as whole
-use Rattle.frame.specs.declared.Header.{Header}
-use Rattle.frame.specs.declared.Header.the-variants.{Fault, Chunk}
+use Rattle.chunks.specs.declared.FrameHeader.{FrameHeader}
+use Rattle.chunks.specs.declared.FrameHeader.the-variants as whole
 use Rattle.rewrite.specs.Rewriting.{Rewritten, rewriteFrame}
 
 -- "Room enough: no lent slice is so short that 1 or 3 is given"
@@ -31,20 +30,19 @@ writtenOf (refused n place) out = []
 abbrev pub bytesWritten : Rewritten → List ℕ
 bytesWritten o = writtenOf (o .said) (o .bytes)
 
--- a sub-chunk, by its header: its kind and its size field
+-- a sub-chunk: its kind and its size
 pub record Sub : Type 0 where
   pub kind : ℕ
   pub size : ℕ
 
-abbrev pub afterSub : List ℕ → ℕ → Header → (ℕ → List Sub) → List Sub
-afterSub b at (Fault e) rest = []
-afterSub b at (Chunk kind end) rest = record { kind = kind; size = u32At b at } ∷ rest end
+abbrev pub sized : List Span → List Sub
+sized [] = []
+sized (s ∷ ss) = record { kind = s .kind; size = s .end - s .from } ∷ sized ss
 
 -- n sub-chunks from offset at on
 unfoldable pub subsAt : List ℕ → ℕ → ℕ → List Sub
-unfolding headerAt
-subsAt b zero at = []
-subsAt b (suc n) at = afterSub b at (headerAt b at) (λ end. subsAt b n end)
+unfolding subSpans
+subsAt b n at = sized (subSpans b n at .met)
 
 -- the sub-chunks of a frame
 abbrev pub afterWhole : List ℕ → FrameHeader → List Sub

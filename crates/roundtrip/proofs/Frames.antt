@@ -13,10 +13,12 @@ use Rattle.words.proofs.There.{there-drop, there-take, there-long, there-le16, 
 use Rattle.answer.specs.Format.{FRAME-TYPE}
 use Rattle.answer.specs.declared.Verdict.{Verdict}
 use Rattle.answer.specs.declared.Answer.the-variants.{Done}
-use Rattle.frame.specs.Frame.{ChunkWalk, FrameWalk, stop, headerAt, settle, followed, subChunk, subChunks, frameHeader, frame}
-use Rattle.frame.specs.declared.FrameHeader.the-variants.{Frame}
-use Rattle.frame.specs.declared.Header.the-variants.{Chunk}
-use Rattle.frame.proofs.Laws.{header-whole, chunks-none, chunks-more, frame-whole, frame-as}
+use Rattle.frame.specs.Frame.{ChunkWalk, FrameWalk, stop, settle, followed, subChunk, subChunks, frame}
+use Rattle.chunks.specs.Headers.{headerAt, frameHeader}
+use Rattle.chunks.specs.declared.FrameHeader.the-variants.{Frame}
+use Rattle.chunks.specs.declared.Header.the-variants.{Chunk}
+use Rattle.frame.proofs.Laws.{chunks-none, chunks-more, frame-as}
+use Rattle.chunks.proofs.Headers.{header-whole, frame-whole}
 use Rattle.house.specs.House.{framed}
 use Rattle.roundtrip.specs.Plays.{Acts, Plays}
 

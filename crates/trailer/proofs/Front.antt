@@ -1,7 +1,6 @@
 -- Lists that begin alike: their words and their file headers are the same.
 use mathlib.Core.Path.{_≡_, refl, sym, ap, ap₂, _∙_, subst}
 use mathlib.Core.List.{List}
-use mathlib.Core.Bool.{Bool, true, false, cond}
 use Prim.Native.Nat.{ℕ, _+_, _*_, _≤_, _<_}
 use native.Mathlib.Omega.{arith}
 use borrow.Author.Tests.{le-leb}
@@ -11,11 +10,12 @@ use lib.Seq.{getD-take}
 use Rattle.words.specs.Words.{u16At, u32At}
 use Rattle.answer.specs.Answer.{sizeOk}
 use Rattle.answer.specs.Format.{FLC-MAGIC}
-use Rattle.answer.specs.declared.Refusal.the-variants.{Cut, WrongType, SmallSize, BadSize, BadHeader}
-use Rattle.walk.specs.Head.{formOk, headOf}
-use Rattle.walk.specs.declared.Head.{Head}
-use Rattle.walk.specs.declared.Head.the-variants.{Fault, Reel}
-use Rattle.walk.proofs.Laws.{head-in}
+use Rattle.words.proofs.Tests.{cond-holds}
+use Rattle.chunks.specs.Spans.{HEADER-BYTES}
+use Rattle.reel_header.specs.Head.{SIZE-AT, MAGIC-AT, FRAMES-AT, WIDTH-AT, HEIGHT-AT, DEPTH-AT, FLAGS-AT, SPEED-AT, formOk, headOf}
+use Rattle.reel_header.specs.declared.Head.{Head}
+use Rattle.reel_header.specs.declared.Head.the-variants.{Fault, Reel}
+use Rattle.reel_header.proofs.Laws.{head-in}
 
 -- words
 
@@ -36,32 +36,27 @@ module _ (b c : List ℕ) (n : ℕ) (e : take n c ≡ take n b) where
 -- its size is the first word
 abbrev SizeIs : ℕ → Head → Type 0
 SizeIs s (Fault e) = Unit {0}
-SizeIs s (Reel w h frames size) = s ≡ size
+SizeIs s (Reel w h frames size speed) = s ≡ size
 
-pub head-word : (b : List ℕ) (w h frames size : ℕ) → headOf b ≡ Reel w h frames size → u32At b 0 ≡ size
+pub head-word : (b : List ℕ) (w h frames size speed : ℕ) → headOf b ≡ Reel w h frames size speed → u32At b SIZE-AT ≡ size
 unfolding headOf
-head-word b w h frames size k =
-    subst (SizeIs (u32At b 0)) k
-    (go (leb 128 (length b)) (eqb (u16At b 4) FLC-MAGIC) (leb 128 (u32At b 0)) (leb (u32At b 0) (length b)) (sizeOk (u16At b 8) (u16At b 10)) (formOk (u16At b 12) (u16At b 6) (u16At b 14)))
-  where
-    go : (a m s l z f : Bool)
-        → SizeIs (u32At b 0) (cond a (cond m (cond s (cond l (cond z (cond f (Reel (u16At b 8) (u16At b 10) (u16At b 6) (u32At b 0)) (Fault BadHeader)) (Fault BadSize)) (Fault Cut)) (Fault SmallSize)) (Fault WrongType)) (Fault Cut))
-    go false m s l z f = tt
-    go true false s l z f = tt
-    go true true false l z f = tt
-    go true true true false z f = tt
-    go true true true true false f = tt
-    go true true true true true false = tt
-    go true true true true true true = refl
+head-word b w h frames size speed k =
+    subst (SizeIs (u32At b SIZE-AT)) k
+    (cond-holds (SizeIs (u32At b SIZE-AT)) (leb HEADER-BYTES (length b)) _ _
+    (cond-holds (SizeIs (u32At b SIZE-AT)) (eqb (u16At b MAGIC-AT) FLC-MAGIC) _ _
+    (cond-holds (SizeIs (u32At b SIZE-AT)) (leb HEADER-BYTES (u32At b SIZE-AT)) _ _
+    (cond-holds (SizeIs (u32At b SIZE-AT)) (leb (u32At b SIZE-AT) (length b)) _ _
+    (cond-holds (SizeIs (u32At b SIZE-AT)) (sizeOk (u16At b WIDTH-AT) (u16At b HEIGHT-AT)) _ _
+    (cond-holds (SizeIs (u32At b SIZE-AT)) (formOk (u16At b DEPTH-AT) (u16At b FRAMES-AT) (u16At b FLAGS-AT)) _ _ refl tt) tt) tt) tt) tt) tt)
 
-pub head-front : (b c : List ℕ) (w h frames size : ℕ) → headOf b ≡ Reel w h frames size → take size c ≡ take size b → size ≤ length c → headOf c ≡ Reel w h frames size
+pub head-front : (b c : List ℕ) (w h frames size speed : ℕ) → headOf b ≡ Reel w h frames size speed → take size c ≡ take size b → size ≤ length c → headOf c ≡ Reel w h frames size speed
 unfolding headOf
-head-front b c w h frames size k e l =
+head-front b c w h frames size speed k e l =
     let i = head-in b _ k in
     let least = i .least in
     let most = i .most in
-    let s = head-word b w h frames size k in
+    let s = head-word b w h frames size speed k in
     let word = front-word b c size e in
     let alike : headOf c ≡ headOf b =
-    simp (front-word32 b c size e 0 (omega arith), word 4 (omega arith), word 6 (omega arith), word 8 (omega arith), word 10 (omega arith), word 12 (omega arith), word 14 (omega arith), le-leb 128 (length c) (omega arith), le-leb 128 (length b) (omega arith), le-leb (u32At b 0) (length c) (omega arith), le-leb (u32At b 0) (length b) (omega arith)) in
+    simp (front-word32 b c size e SIZE-AT (omega arith), front-word32 b c size e SPEED-AT (omega arith), word MAGIC-AT (omega arith), word FRAMES-AT (omega arith), word WIDTH-AT (omega arith), word HEIGHT-AT (omega arith), word DEPTH-AT (omega arith), word FLAGS-AT (omega arith), le-leb HEADER-BYTES (length c) (omega arith), le-leb HEADER-BYTES (length b) (omega arith), le-leb (u32At b SIZE-AT) (length c) (omega arith), le-leb (u32At b SIZE-AT) (length b) (omega arith)) in
     alike ∙ k

@@ -18,11 +18,12 @@ use Rattle.answer.specs.declared.Answer.{Answer}
 use Rattle.answer.specs.declared.Answer.the-variants.{Done, Refused}
 use Rattle.answer.specs.declared.Written.the-variants as written
 use Rattle.house.specs.Writing.{output}
-use Rattle.walk.specs.Head.{headOf}
-use Rattle.walk.specs.Walk.{Found, topFrames}
-use Rattle.walk.specs.declared.Head.{Head}
-use Rattle.walk.specs.declared.Head.the-variants as head
-use Rattle.walk.proofs.Laws.{head-in, found-many}
+use Rattle.reel_header.specs.Head.{headOf}
+use Rattle.chunks.specs.Spans.{HEADER-BYTES, Found, topFrames}
+use Rattle.reel_header.specs.declared.Head.{Head}
+use Rattle.reel_header.specs.declared.Head.the-variants as head
+use Rattle.reel_header.proofs.Laws.{head-in}
+use Rattle.chunks.proofs.Spans.{found-many}
 use Rattle.trailer.specs.Trailer.{index, trailerOf, judged, walked, checkedAfter, checkTrailer, storedIf, writtenAfter, writeTrailer, Walked, padded}
 
 -- the index
@@ -60,8 +61,8 @@ trailer-length os =
     length-append (index os) (le32 (4 * length os + 8) (le16 (length os) (le16 1 []))) ∙ ap (λ (n : ℕ). n + 8) (index-length os)
 
 -- where all of count frames were met
-pub trailer-many : (b : List ℕ) (count : ℕ) → topFrames b count 128 .answer ≡ Done → length (trailerOf (topFrames b count 128 .offsets)) ≡ 4 * count + 8
-trailer-many b count m = trailer-length (topFrames b count 128 .offsets) ∙ ap (λ (n : ℕ). 4 * n + 8) (found-many b count 128 m)
+pub trailer-many : (b : List ℕ) (count : ℕ) → topFrames b count HEADER-BYTES .answer ≡ Done → length (trailerOf (topFrames b count HEADER-BYTES .offsets)) ≡ 4 * count + 8
+trailer-many b count m = trailer-length (topFrames b count HEADER-BYTES .offsets) ∙ ap (λ (n : ℕ). 4 * n + 8) (found-many b count HEADER-BYTES m)
 
 trailer-counted : (os : List ℕ) (count : ℕ) → length os ≡ count → index os ++ le32 (4 * count + 8) (le16 count (le16 1 [])) ≡ trailerOf os
 unfolding trailerOf
@@ -146,68 +147,68 @@ module _ (os : List ℕ) (count : ℕ) (d x₁ x₂ x₃ x₄ : List ℕ) where
 
 -- what a reel's header leads to; n and m: the length of the range up to size, and the number of frames with the ring, as the code has them
 
-module _ (b : List ℕ) (w h frames size : ℕ) (k : headOf b ≡ head.Reel w h frames size) (n m : ℕ) (en : n ≡ size) (em : m ≡ suc frames) where
-  walked-as : walked b frames size ≡ topFrames (take n b) m 128
-  walked-as = sym (ap₂ (λ (x y : ℕ). topFrames (take x b) y 128) en em)
+module _ (b : List ℕ) (w h frames size speed : ℕ) (k : headOf b ≡ head.Reel w h frames size speed) (n m : ℕ) (en : n ≡ size) (em : m ≡ suc frames) where
+  walked-as : walked b frames size ≡ topFrames (take n b) m HEADER-BYTES
+  walked-as = sym (ap₂ (λ (x y : ℕ). topFrames (take x b) y HEADER-BYTES) en em)
 
-  pub walked-long : 128 ≤ length (take n b)
+  pub walked-long : HEADER-BYTES ≤ length (take n b)
   walked-long = let i = head-in b _ k in omega (arith, i .least, length-take-le n b (omega (arith, i .most)))
 
-  pub walked-in : topFrames (take n b) m 128 .answer ≡ Done → Walked (take n b) m
+  pub walked-in : topFrames (take n b) m HEADER-BYTES .answer ≡ Done → Walked (take n b) m
   walked-in q = record { long = walked-long; few = omega (arith, head-in b _ k .few-frames); met = q }
 
   -- the check
 
-  checked-judged : (a : Answer) → topFrames (take n b) m 128 .answer ≡ a → checkTrailer b ≡ told (judged (drop size b) (topFrames (take n b) m 128) a)
+  checked-judged : (a : Answer) → topFrames (take n b) m HEADER-BYTES .answer ≡ a → checkTrailer b ≡ told (judged (drop size b) (topFrames (take n b) m HEADER-BYTES) a)
   unfolding checkTrailer
   checked-judged a q =
       ap (λ (x : Head). told (checkedAfter b x)) k
       ∙ ap (λ (f : Found). told (judged (drop size b) f (f .answer))) walked-as
-      ∙ ap (λ (x : Answer). told (judged (drop size b) (topFrames (take n b) m 128) x)) q
+      ∙ ap (λ (x : Answer). told (judged (drop size b) (topFrames (take n b) m HEADER-BYTES) x)) q
 
-  pub checked-refused : (e : Refusal) (place : ℕ) → topFrames (take n b) m 128 .answer ≡ Refused e place → checkTrailer b ≡ told (Refused e place)
+  pub checked-refused : (e : Refusal) (place : ℕ) → topFrames (take n b) m HEADER-BYTES .answer ≡ Refused e place → checkTrailer b ≡ told (Refused e place)
   checked-refused e place q = checked-judged (Refused e place) q
 
-  module _ (q : topFrames (take n b) m 128 .answer ≡ Done) where
+  module _ (q : topFrames (take n b) m HEADER-BYTES .answer ≡ Done) where
     pub checked-bare : length b ≡ size → checkTrailer b ≡ done []
     checked-bare l = checked-judged Done q ∙ simp (eq-eqb (length (drop size b)) 0 (simp length-drop (omega arith)))
 
     -- r: whether what follows the size, l bytes, is the trailer; found to be t
     pub checked-compared : size < length b → (l : ℕ) → l ≡ length b - size → (r t : Bool)
-        → r ≡ same (take l (drop size b)) (trailerOf (topFrames (take n b) m 128 .offsets)) → r ≡ t → checkTrailer b ≡ told (cond t Done (Refused BadTrailer 0))
+        → r ≡ same (take l (drop size b)) (trailerOf (topFrames (take n b) m HEADER-BYTES .offsets)) → r ≡ t → checkTrailer b ≡ told (cond t Done (Refused BadTrailer 0))
     checked-compared s l el r t e f =
-        let g : same (drop size b) (trailerOf (topFrames (take n b) m 128 .offsets)) ≡ t =
-        ap (λ (x : List ℕ). same x (trailerOf (topFrames (take n b) m 128 .offsets))) (sym (take-all l (drop size b) (simp length-drop (omega arith)))) ∙ sym e ∙ f in
+        let g : same (drop size b) (trailerOf (topFrames (take n b) m HEADER-BYTES .offsets)) ≡ t =
+        ap (λ (x : List ℕ). same x (trailerOf (topFrames (take n b) m HEADER-BYTES .offsets))) (sym (take-all l (drop size b) (simp length-drop (omega arith)))) ∙ sym e ∙ f in
         checked-judged Done q ∙ simp (ne-eqb (length (drop size b)) 0 (λ z. omega (arith, length-drop size b)), g)
 
   -- writing
 
-  wrote-if : (a : Answer) → topFrames (take n b) m 128 .answer ≡ a → writeTrailer b ≡ storedIf size b (topFrames (take n b) m 128) a
+  wrote-if : (a : Answer) → topFrames (take n b) m HEADER-BYTES .answer ≡ a → writeTrailer b ≡ storedIf size b (topFrames (take n b) m HEADER-BYTES) a
   unfolding writeTrailer
   wrote-if a q =
       ap (writtenAfter b) k
       ∙ ap (λ (f : Found). storedIf size b f (f .answer)) walked-as
-      ∙ ap (storedIf size b (topFrames (take n b) m 128)) q
+      ∙ ap (storedIf size b (topFrames (take n b) m HEADER-BYTES)) q
 
-  pub wrote-refused : (e : Refusal) (place : ℕ) → topFrames (take n b) m 128 .answer ≡ Refused e place → writeTrailer b ≡ output (written.Refused e place) b
+  pub wrote-refused : (e : Refusal) (place : ℕ) → topFrames (take n b) m HEADER-BYTES .answer ≡ Refused e place → writeTrailer b ≡ output (written.Refused e place) b
   wrote-refused e place q = wrote-if (Refused e place) q
 
   -- l: the trailer's length
-  module _ (q : topFrames (take n b) m 128 .answer ≡ Done) (l : ℕ) (el : length (trailerOf (topFrames (take n b) m 128 .offsets)) ≡ l) where
+  module _ (q : topFrames (take n b) m HEADER-BYTES .answer ≡ Done) (l : ℕ) (el : length (trailerOf (topFrames (take n b) m HEADER-BYTES .offsets)) ≡ l) where
     pub wrote-short : length b < size + l → writeTrailer b ≡ output (written.Refused NoRoom 0) b
-    wrote-short s = wrote-if Done q ∙ simp (lt-leb (size + length (trailerOf (topFrames (take n b) m 128 .offsets))) (length b) (omega arith))
+    wrote-short s = wrote-if Done q ∙ simp (lt-leb (size + length (trailerOf (topFrames (take n b) m HEADER-BYTES .offsets))) (length b) (omega arith))
 
-    pub wrote-done : size + l ≤ length b → writeTrailer b ≡ output (written.Done (size + l)) (put b size (trailerOf (topFrames (take n b) m 128 .offsets)))
+    pub wrote-done : size + l ≤ length b → writeTrailer b ≡ output (written.Done (size + l)) (put b size (trailerOf (topFrames (take n b) m HEADER-BYTES .offsets)))
     wrote-done s =
         wrote-if Done q
-        ∙ simp (le-leb (size + length (trailerOf (topFrames (take n b) m 128 .offsets))) (length b) (omega arith))
-        (ap (λ (x : ℕ). output (written.Done (size + x)) (put b size (trailerOf (topFrames (take n b) m 128 .offsets)))) el)
+        ∙ simp (le-leb (size + length (trailerOf (topFrames (take n b) m HEADER-BYTES .offsets))) (length b) (omega arith))
+        (ap (λ (x : ℕ). output (written.Done (size + x)) (put b size (trailerOf (topFrames (take n b) m HEADER-BYTES .offsets)))) el)
 
     -- x: what the part behind the size comes back as, y: the buffer
-    pub wrote-back : size + l ≤ length b → (x y : List ℕ) (j : ℕ) → j ≡ l → y ≡ padded (trailerOf (topFrames (take n b) m 128 .offsets)) → x ≡ take j y
+    pub wrote-back : size + l ≤ length b → (x y : List ℕ) (j : ℕ) → j ≡ l → y ≡ padded (trailerOf (topFrames (take n b) m HEADER-BYTES .offsets)) → x ≡ take j y
         → output (written.Done (size + l)) (back b size (size + l) x) ≡ writeTrailer b
     wrote-back s x y j ej ey ex =
-        let t = trailerOf (topFrames (take n b) m 128 .offsets) in
+        let t = trailerOf (topFrames (take n b) m HEADER-BYTES .offsets) in
         ap (output (written.Done (size + l))) (span-back b x t size (size + l) l (ex ∙ padded-front t y j ey (el ∙ sym ej)) el refl) ∙ sym (wrote-done s)
 
 -- a header with a fault

@@ -26,11 +26,13 @@ use Rattle.answer.specs.declared.Answer.the-variants.{Done, Refused}
 use Rattle.answer.specs.declared.Written.the-variants as written
 use Rattle.frame.specs.Reading.{enough}
 use Rattle.house.specs.Writing.{Output, output}
-use Rattle.walk.specs.Head.{headOf}
-use Rattle.walk.specs.Walk.{Found, topFrames}
-use Rattle.walk.specs.declared.Head.{Head}
-use Rattle.walk.specs.declared.Head.the-variants.{Fault, Reel}
-use Rattle.walk.proofs.Laws.{head-in, found-many, found-in}
+use Rattle.reel_header.specs.Head.{headOf}
+use Rattle.chunks.specs.Spans.{HEADER-BYTES, Found, topFrames}
+use Rattle.reel_header.specs.declared.Head.{Head}
+use Rattle.reel_header.specs.declared.Head.the-variants.{Fault, Reel}
+use Rattle.chunks.specs.declared.Layout.the-variants.{Loose}
+use Rattle.reel_header.proofs.Laws.{head-in}
+use Rattle.chunks.proofs.Spans.{found-many, found-in}
 use Rattle.reel.specs.Play.{playAll}
 use Rattle.reel.specs.Check.{checked, checkedBy, afterHead, checkReel}
 use Rattle.trailer.specs.Trailer.{index, trailerOf, walked, checkTrailer, writeTrailer}
@@ -55,21 +57,21 @@ data Outcome (b : List ℕ) (frames size : ℕ) : Type 0 where
   kept : (e : Refusal) (place : ℕ) → writeTrailer b ≡ output (written.Refused e place) b → Outcome b frames size
   wrote : (n : ℕ) → writeTrailer b .said ≡ done (n ∷ []) → Wrote b frames size n → Outcome b frames size
 
-module _ (b : List ℕ) (w h frames size : ℕ) (k : headOf b ≡ Reel w h frames size) where
+module _ (b : List ℕ) (w h frames size speed : ℕ) (k : headOf b ≡ Reel w h frames size speed) where
   outcome : Outcome b frames size
   outcome = by-answer (walked b frames size .answer) refl
     where
       by-room : walked b frames size .answer ≡ Done → (t : Bool) → leb (size + length (trailer b frames size)) (length b) ≡ t → Outcome b frames size
       by-room q true e =
           let l = leb-true (size + length (trailer b frames size)) (length b) e in
-          let o = wrote-done b w h frames size k size (suc frames) refl refl q _ refl l in
+          let o = wrote-done b w h frames size speed k size (suc frames) refl refl q _ refl l in
           wrote (size + length (trailer b frames size)) (ap (λ (x : Output). x .said) o) (record { met = q; end = refl; room = l; bytes = ap (λ (x : Output). x .bytes) o })
       by-room q false e =
-          kept NoRoom 0 (wrote-short b w h frames size k size (suc frames) refl refl q _ refl (leb-false (size + length (trailer b frames size)) (length b) e))
+          kept NoRoom 0 (wrote-short b w h frames size speed k size (suc frames) refl refl q _ refl (leb-false (size + length (trailer b frames size)) (length b) e))
 
       by-answer : (a : Answer) → walked b frames size .answer ≡ a → Outcome b frames size
       by-answer Done q = by-room q (leb (size + length (trailer b frames size)) (length b)) refl
-      by-answer (Refused e place) q = kept e place (wrote-refused b w h frames size k size (suc frames) refl refl e place q)
+      by-answer (Refused e place) q = kept e place (wrote-refused b w h frames size speed k size (suc frames) refl refl e place q)
 
   wrote-in : (n : ℕ) → writeTrailer b .said ≡ done (n ∷ []) → Wrote b frames size n
   wrote-in n s = go outcome
@@ -108,7 +110,7 @@ module _ (b : List ℕ) (w h frames size : ℕ) (k : headOf b ≡ Reel w h frame
 
 -- the check accepts it
 
-module _ (b : List ℕ) (w h frames size n : ℕ) (k : headOf b ≡ Reel w h frames size) (i : Wrote b frames size n) where
+module _ (b : List ℕ) (w h frames size speed n : ℕ) (k : headOf b ≡ Reel w h frames size speed) (i : Wrote b frames size n) where
   -- a file of the reel and its trailer
   file-accepted : (f : List ℕ) → f ≡ take size b ++ trailer b frames size → checkTrailer f ≡ done []
   file-accepted f e =
@@ -118,9 +120,9 @@ module _ (b : List ℕ) (w h frames size n : ℕ) (k : headOf b ≡ Reel w h fra
       let back : drop size f ≡ t = ap (drop size) e ∙ drop-at (take size b) t size l in
       let long : length f ≡ size + length t = ap length e ∙ length-append (take size b) t ∙ ap (λ (m : ℕ). m + length t) l in
       let some = trailer-length (walked b frames size .offsets) in
-      let walk : topFrames (take size f) (suc frames) 128 ≡ walked b frames size = ap (λ (x : List ℕ). topFrames x (suc frames) 128) front in
+      let walk : topFrames (take size f) (suc frames) HEADER-BYTES ≡ walked b frames size = ap (λ (x : List ℕ). topFrames x (suc frames) HEADER-BYTES) front in
       let rest : take (length f - size) (drop size f) ≡ t = ap (take (length f - size)) back ∙ take-all (length f - size) t (omega arith) in
-      checked-compared f w h frames size (head-front b f w h frames size k front (omega arith)) size (suc frames) refl refl (ap (λ (x : Found). x .answer) walk ∙ i .met)
+      checked-compared f w h frames size speed (head-front b f w h frames size speed k front (omega arith)) size (suc frames) refl refl (ap (λ (x : Found). x .answer) walk ∙ i .met)
       (omega arith) (length f - size) refl _ true refl (ap₂ same rest (ap (λ (x : Found). trailerOf (x .offsets)) walk) ∙ same-refl t)
 
 pub written-accepted : (b : List ℕ) (n : ℕ) → writeTrailer b .said ≡ done (n ∷ []) → checkTrailer (take n (writeTrailer b .bytes)) ≡ done []
@@ -130,9 +132,9 @@ written-accepted b n s = by-head (headOf b) refl
     by-head (Fault e) k =
         let r : writeTrailer b .said ≡ refused (number e) 0 = ap (λ (x : Output). x .said) (wrote-fault b e k) in
         let z : _≡_ {A = ℕ} 0 1 = cc in absurd (omega arith)
-    by-head (Reel w h frames size) k =
-        let i = wrote-in b w h frames size k n s in
-        file-accepted b w h frames size n k i (take n (writeTrailer b .bytes)) (written-file b w h frames size k n i)
+    by-head (Reel w h frames size speed) k =
+        let i = wrote-in b w h frames size speed k n s in
+        file-accepted b w h frames size speed n k i (take n (writeTrailer b .bytes)) (written-file b w h frames size speed k n i)
 
 -- its entries
 
@@ -146,29 +148,29 @@ trailer-entry os i more h =
     let tail = le32 (4 * length os + 8) (le16 (length os) (le16 1 [])) in
     ap (drop (4 * i)) (append-assoc (index os) tail more) ∙ index-entry os (tail ++ more) i h
 
-pub entries-are : (b : List ℕ) (w h frames size n : ℕ) → Bytes b → headOf b ≡ Reel w h frames size → writeTrailer b .said ≡ done (n ∷ [])
-    → (i : ℕ) → i ≤ frames → u32At (writeTrailer b .bytes) (size + 4 * i) ≡ getD (topFrames (take size b) (suc frames) 128 .offsets) i 0
-entries-are b w h frames size n bytes k s i le =
+pub entries-are : (b : List ℕ) (w h frames size speed n : ℕ) → Bytes b → headOf b ≡ Reel w h frames size speed → writeTrailer b .said ≡ done (n ∷ [])
+    → (i : ℕ) → i ≤ frames → u32At (writeTrailer b .bytes) (size + 4 * i) ≡ getD (topFrames (take size b) (suc frames) HEADER-BYTES .offsets) i 0
+entries-are b w h frames size speed n bytes k s i le =
     let os = walked b frames size .offsets in
-    let j = wrote-in b w h frames size k n s in
+    let j = wrote-in b w h frames size speed k n s in
     let l = length-take-le size b (head-in b _ k .most) in
     let more = drop (size + length (trailerOf os)) b in
     let there : drop (size + 4 * i) (writeTrailer b .bytes) ≡ drop (4 * i) (trailerOf os ++ more) =
     ap (drop (size + 4 * i)) (j .bytes) ∙ sym (drop-drop (4 * i) size (put b size (trailerOf os))) ∙ ap (drop (4 * i)) (drop-at (take size b) (trailerOf os ++ more) size l) in
-    let many = found-many (take size b) (suc frames) 128 (j .met) in
+    let many = found-many (take size b) (suc frames) HEADER-BYTES (j .met) in
     let small : getD os i 0 < 4294967296 =
-    omega (arith, found-in (take size b) (suc frames) 128 i (omega (arith, head-in b _ k .least)), head-word b w h frames size k, bytes-word32 b 0 bytes) in
+    omega (arith, found-in (take size b) (suc frames) HEADER-BYTES i (omega (arith, head-in b _ k .least)), head-word b w h frames size speed k, bytes-word32 b 0 bytes) in
     there-le32 (writeTrailer b .bytes) _ (size + 4 * i) (getD os i 0) small (there ∙ trailer-entry os i more (omega arith))
 
 -- the check of the reel
 
 module _ (b p q p′ q′ : List ℕ) where
   -- c holds the same reel
-  check-front : (c : List ℕ) (w h frames size : ℕ) → headOf b ≡ Reel w h frames size → take size c ≡ take size b → size ≤ length c → checkReel c p q p′ q′ ≡ checkReel b p q p′ q′
+  check-front : (c : List ℕ) (w h frames size speed : ℕ) → headOf b ≡ Reel w h frames size speed → take size c ≡ take size b → size ≤ length c → checkReel c p q p′ q′ ≡ checkReel b p q p′ q′
   unfolding checkReel
-  check-front c w h frames size k e l =
-      ap (λ (x : Head). afterHead c x p q p′ q′) (head-front b c w h frames size k e l)
-      ∙ ap (λ (x : List ℕ). cond (enough (w * h) p q && enough (w * h) p′ q′) (checkedBy (w * h) (playAll false frames w h x) p q p′ q′) (checked (Refused ShortSlice 0) p q p′ q′)) e
+  check-front c w h frames size speed k e l =
+      ap (λ (x : Head). afterHead c x p q p′ q′) (head-front b c w h frames size speed k e l)
+      ∙ ap (λ (x : List ℕ). cond (enough (w * h) p q && enough (w * h) p′ q′) (checkedBy (w * h) (playAll Loose frames w h x) p q p′ q′) (checked (Refused ShortSlice 0) p q p′ q′)) e
       ∙ sym (ap (λ (x : Head). afterHead b x p q p′ q′) k)
 
   pub check-same : checkReel (writeTrailer b .bytes) p q p′ q′ ≡ checkReel b p q p′ q′
@@ -176,8 +178,8 @@ module _ (b p q p′ q′ : List ℕ) where
     where
       by-head : (x : Head) → headOf b ≡ x → checkReel (writeTrailer b .bytes) p q p′ q′ ≡ checkReel b p q p′ q′
       by-head (Fault e) k = ap (λ (x : Output). checkReel (x .bytes) p q p′ q′) (wrote-fault b e k)
-      by-head (Reel w h frames size) k =
-          check-front (writeTrailer b .bytes) w h frames size k (written-front b w h frames size k) (omega (arith, written-long b w h frames size k, head-in b _ k .most))
+      by-head (Reel w h frames size speed) k =
+          check-front (writeTrailer b .bytes) w h frames size speed k (written-front b w h frames size speed k) (omega (arith, written-long b w h frames size speed k, head-in b _ k .most))
 
   pub check-same-cut : (n : ℕ) → writeTrailer b .said ≡ done (n ∷ []) → checkReel (take n (writeTrailer b .bytes)) p q p′ q′ ≡ checkReel b p q p′ q′
   check-same-cut n s = by-head (headOf b) refl
@@ -186,8 +188,8 @@ module _ (b p q p′ q′ : List ℕ) where
       by-head (Fault e) k =
           let r : writeTrailer b .said ≡ refused (number e) 0 = ap (λ (x : Output). x .said) (wrote-fault b e k) in
           let z : _≡_ {A = ℕ} 0 1 = cc in absurd (omega arith)
-      by-head (Reel w h frames size) k =
-          let i = wrote-in b w h frames size k n s in
-          let long = length-take-le n (writeTrailer b .bytes) (omega (arith, i .room, written-long b w h frames size k)) in
-          check-front (take n (writeTrailer b .bytes)) w h frames size k
-          (take-take size n (writeTrailer b .bytes) (omega (arith, i .end)) ∙ written-front b w h frames size k) (omega (arith, i .end))
+      by-head (Reel w h frames size speed) k =
+          let i = wrote-in b w h frames size speed k n s in
+          let long = length-take-le n (writeTrailer b .bytes) (omega (arith, i .room, written-long b w h frames size speed k)) in
+          check-front (take n (writeTrailer b .bytes)) w h frames size speed k
+          (take-take size n (writeTrailer b .bytes) (omega (arith, i .end)) ∙ written-front b w h frames size speed k) (omega (arith, i .end))

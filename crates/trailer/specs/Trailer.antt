@@ -4,7 +4,7 @@ use mathlib.Core.Path.{_≡_}
 use mathlib.Core.List.{List, [], _∷_, _++_}
 use lib.Dec.{leb, eqb}
 use lib.ListN.{length, take, drop, replicate}
-use Rattle.words.specs.Words.{le16, le32, same}
+use Rattle.words.specs.Words.{require_else_then_, le16, le32, same}
 use mathlib.Core.Bool.{cond}
 use Rattle.words.specs.Writes.{put}
 use Rattle.answer.specs.Answer.{Said, told, maxFrames}
@@ -13,10 +13,10 @@ use Rattle.answer.specs.declared.Answer.{Answer}
 use Rattle.answer.specs.declared.Answer.the-variants.{Done, Refused}
 use Rattle.answer.specs.declared.Written.the-variants as written
 use Rattle.house.specs.Writing.{Output, output}
-use Rattle.walk.specs.Head.{headOf}
-use Rattle.walk.specs.Walk.{Found, topFrames}
-use Rattle.walk.specs.declared.Head.{Head}
-use Rattle.walk.specs.declared.Head.the-variants as head
+use Rattle.reel_header.specs.Head.{headOf}
+use Rattle.chunks.specs.Spans.{HEADER-BYTES, Found, topFrames}
+use Rattle.reel_header.specs.declared.Head.{Head}
+use Rattle.reel_header.specs.declared.Head.the-variants as head
 
 -- "an index: 4 bytes for each frame's offset, ring included"
 unfoldable pub index : List ℕ → List ℕ
@@ -30,16 +30,16 @@ trailerOf os = index os ++ le32 (4 * length os + 8) (le16 (length os) (le16 1 []
 
 -- "No bytes after the size is also right. All else is 17"; rest: what stands after the size
 abbrev pub judged : List ℕ → Found → Answer → Answer
-judged rest f Done = cond (eqb (length rest) 0) Done (cond (same rest (trailerOf (f .offsets))) Done (Refused BadTrailer 0))
+judged rest f Done = cond (eqb (length rest) 0) Done (require same rest (trailerOf (f .offsets)) else Refused BadTrailer 0 then Done)
 judged rest f (Refused e place) = Refused e place
 
 -- "Checking or writing a trailer first walks the header and top-level chunks with their refusals": frames + 1 of them, up to the size
 abbrev pub walked : List ℕ → ℕ → ℕ → Found
-walked b frames size = topFrames (take size b) (suc frames) 128
+walked b frames size = topFrames (take size b) (suc frames) HEADER-BYTES
 
 abbrev pub checkedAfter : List ℕ → Head → Answer
 checkedAfter b (head.Fault e) = Refused e 0
-checkedAfter b (head.Reel w h frames size) = judged (drop size b) (walked b frames size) (walked b frames size .answer)
+checkedAfter b (head.Reel w h frames size speed) = judged (drop size b) (walked b frames size) (walked b frames size .answer)
 
 unfoldable pub checkTrailer : List ℕ → Said
 unfolding headOf topFrames trailerOf
@@ -47,7 +47,9 @@ checkTrailer b = told (checkedAfter b (headOf b))
 
 -- "The index begins at the size": t put there, all else unchanged; "Writing gives 3 last"; done gives the file's new length
 abbrev pub stored : ℕ → List ℕ → List ℕ → Output
-stored size t b = cond (leb (size + length t) (length b)) (output (written.Done (size + length t)) (put b size t)) (output (written.Refused NoRoom 0) b)
+stored size t b =
+    require leb (size + length t) (length b) else output (written.Refused NoRoom 0) b then
+    output (written.Done (size + length t)) (put b size t)
 
 abbrev pub storedIf : ℕ → List ℕ → Found → Answer → Output
 storedIf size b f Done = stored size (trailerOf (f .offsets)) b
@@ -55,7 +57,7 @@ storedIf size b f (Refused e place) = output (written.Refused e place) b
 
 abbrev pub writtenAfter : List ℕ → Head → Output
 writtenAfter b (head.Fault e) = output (written.Refused e 0) b
-writtenAfter b (head.Reel w h frames size) = storedIf size b (walked b frames size) (walked b frames size .answer)
+writtenAfter b (head.Reel w h frames size speed) = storedIf size b (walked b frames size) (walked b frames size .answer)
 
 unfoldable pub writeTrailer : List ℕ → Output
 unfolding headOf topFrames trailerOf
@@ -63,9 +65,9 @@ writeTrailer b = writtenAfter b (headOf b)
 
 -- what the inner functions ask: a reel whose count frames were all met
 pub record Walked (b : List ℕ) (count : ℕ) : Type 0 where
-  pub long : 128 ≤ length b
+  pub long : HEADER-BYTES ≤ length b
   pub few : count ≤ suc maxFrames
-  pub met : topFrames b count 128 .answer ≡ Done
+  pub met : topFrames b count HEADER-BYTES .answer ≡ Done
 
 -- t at the front of a buffer of 16,012 zeros
 unfoldable pub padded : List ℕ → List ℕ

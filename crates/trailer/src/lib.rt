@@ -7,27 +7,29 @@ ghost use Rattle.words.specs.Words.{same};
 ghost use Rattle.words.specs.Writes.{put};
 ghost use Rattle.answer.specs.Answer.{told};
 ghost use Rattle.house.specs.Writing.{output};
-ghost use Rattle.walk.specs.Walk.{topFrames};
+ghost use Rattle.chunks.specs.Spans.{HEADER-BYTES, topFrames};
 ghost use Rattle.trailer.specs.Trailer.{index, trailerOf, Walked, padded, checkTrailer, writeTrailer};
 use answer::Answer;
 use answer::Refusal;
 use answer::Written;
-use walk::Head;
-use walk::Next;
+use chunks::Extent;
+use chunks::HEADER_BYTES;
+use chunks::Next;
+use reel_header::Head;
 
 // The most bytes of an index and its trailer: 4 for each of 4,000 frames and the ring, and 8.
 const MOST: usize = 16012;
 
 // Stores the offset of each of count frames of b.
 fn put_index(out: &mut [u8], b: &[u8], count: usize)
-    requires { ⌜ (128 ≤ length (now b)) × (4 * count ≤ length (now out)) ⌝ }
-    ensures { λ _. ⌜ now (out .exit) ≡ put (now (out .entry)) 0 (index (topFrames (now (b .entry)) count 128 .offsets)) ⌝ }
+    requires { ⌜ (HEADER-BYTES ≤ length (now b)) × (4 * count ≤ length (now out)) ⌝ }
+    ensures { λ _. ⌜ now (out .exit) ≡ put (now (out .entry)) 0 (index (topFrames (now (b .entry)) count HEADER-BYTES .offsets)) ⌝ }
 {
-    let mut at = 128;
+    let mut at = HEADER_BYTES;
     let mut to = 0;
     let mut left = count;
     while left > 0 {
-        match walk::next_at(b, at) {
+        match chunks::next_at(b, at) {
             Next::Fault(_, _) => {
                 return;
             }
@@ -51,7 +53,7 @@ fn zeros() -> [u8; MOST]
 // The index of count frames of b and the trailer, at the front of a buffer of zeros.
 fn trailer_of(b: &[u8], count: usize) -> [u8; MOST]
     requires { ⌜ Walked (now b) count ⌝ }
-    ensures { λ r. ⌜ r ≡ padded (trailerOf (topFrames (now (b .entry)) count 128 .offsets)) ⌝ }
+    ensures { λ r. ⌜ r ≡ padded (trailerOf (topFrames (now (b .entry)) count HEADER-BYTES .offsets)) ⌝ }
 {
     let mut out = zeros();
     let at = 4 * count;
@@ -65,7 +67,7 @@ fn trailer_of(b: &[u8], count: usize) -> [u8; MOST]
 // Whether rest is the index of count frames of b and the trailer.
 fn same_trailer(rest: &[u8], b: &[u8], count: usize) -> bool
     requires { ⌜ Walked (now b) count ⌝ }
-    ensures { λ r. ⌜ r ≡ same (now (rest .entry)) (trailerOf (topFrames (now (b .entry)) count 128 .offsets)) ⌝ }
+    ensures { λ r. ⌜ r ≡ same (now (rest .entry)) (trailerOf (topFrames (now (b .entry)) count HEADER-BYTES .offsets)) ⌝ }
 {
     let n = 4 * count + 8;
     if rest.len() != n {
@@ -79,16 +81,17 @@ fn same_trailer(rest: &[u8], b: &[u8], count: usize) -> bool
 pub fn check_trailer(bytes: &[u8]) -> Answer
     ensures { λ r. ⌜ told r ≡ checkTrailer (now (bytes .entry)) ⌝ }
 {
-    match walk::head_of(bytes) {
+    match reel_header::head_of(bytes) {
         Head::Fault(e) => Answer::Refused(e, 0),
         Head::Reel {
             width: _,
             height: _,
             frames,
             size,
-        } => match walk::walk_frames(&bytes[0..size], frames + 1) {
-            Answer::Refused(e, place) => Answer::Refused(e, place),
-            Answer::Done => {
+            speed: _,
+        } => match chunks::walk_frames(&bytes[0..size], frames + 1) {
+            Extent::Fault(e, place) => Answer::Refused(e, place),
+            Extent::End(_) => {
                 if bytes.len() == size {
                     return Answer::Done;
                 }
@@ -105,16 +108,17 @@ pub fn check_trailer(bytes: &[u8]) -> Answer
 pub fn write_trailer(bytes: &mut [u8]) -> Written
     ensures { λ r. ⌜ output r (now (bytes .exit)) ≡ writeTrailer (now (bytes .entry)) ⌝ }
 {
-    match walk::head_of(bytes) {
+    match reel_header::head_of(bytes) {
         Head::Fault(e) => Written::Refused(e, 0),
         Head::Reel {
             width: _,
             height: _,
             frames,
             size,
-        } => match walk::walk_frames(&bytes[0..size], frames + 1) {
-            Answer::Refused(e, place) => Written::Refused(e, place),
-            Answer::Done => {
+            speed: _,
+        } => match chunks::walk_frames(&bytes[0..size], frames + 1) {
+            Extent::Fault(e, place) => Written::Refused(e, place),
+            Extent::End(_) => {
                 let n = 4 * (frames + 1) + 8;
                 if bytes.len() - size < n {
                     return Written::Refused(Refusal::NoRoom, 0);

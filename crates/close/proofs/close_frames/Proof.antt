@@ -14,6 +14,7 @@ use Rattle.build.proofs.Laws.{end-in}
 use Rattle.build.specs.declared.Built.the-variants.{Refused}
 use Rattle.build.specs.Building.{endOk}
 use Rattle.close.specs.Closing.{closing}
+use Rattle.chunks.specs.declared.Layout.the-variants.{Packed}
 use Rattle.close.proofs.Laws.{all-long, frames-record, frames-stopped, frames-early, frames-ringed}
 use borrow.Author.Needs.{needs}
 use Rattle.close.proofs.close_frames.Statement.{statement}
@@ -100,7 +101,7 @@ put-ring-requires c κs =
     let p = c .before .before .before .before .before .before .before .before .before .before .before .before .before .before .before .before .before .play-all in
     let i = end-in (a .reel .end) (length (a .bytes .now)) (inside ((c .before .before .before .before .before .before .before .before .before .before .before .before .before .before .before .before .before .before .before .before .before .before .before .before))) in
     let l = length-take-le (a .reel .end - 0) (a .bytes .now) (omega (arith, i .1)) in
-    let long = all-long true (a .reel .frames - 1) (a .reel .width) (a .reel .height) (take (a .reel .end - 0) (a .bytes .now)) _ _ (omega (arith, i .0, l)) (ap (λ (x : Shown). x .result) (sym (p .ensures)) ∙ c .before .before .before .before .before .before .before .next .given .1) in
+    let long = all-long Packed (a .reel .frames - 1) (a .reel .width) (a .reel .height) (take (a .reel .end - 0) (a .bytes .now)) _ _ (omega (arith, i .0, l)) (ap (λ (x : Shown). x .result) (sym (p .ensures)) ∙ c .before .before .before .before .before .before .before .next .given .1) in
     let s = size-in (a .reel .width) (a .reel .height) (c .before .before .before .before .before .before .before .before .before .before .before .before .before .before .before .before .before .before .before .before .before .before .before .before .before .before .before .before .before .before .before .before .pre .2 .size) in (
       omega (arith, long, l),
       i .1,

@@ -1,5 +1,6 @@
 -- `check_chunks` meets its contract. The invariant: the frame is answered as the sub-chunks that are left are from here on.
-use Rattle.frame.proofs.Laws.{header-in, chunks-none, chunks-stop, chunks-bad, chunks-good}
+use Rattle.frame.proofs.Laws.{chunks-none, chunks-stop, chunks-bad, chunks-good}
+use Rattle.chunks.proofs.Headers.{header-in}
 use Rattle.frame.specs.Frame.{FrameWalk, subChunks}
 use Rattle.answer.specs.declared.Answer.{Answer}
 use lib.ListN.{length}

@@ -1,5 +1,6 @@
 -- `check_frame` meets its contract: a header at fault is refused with place 0, any other leads to its sub-chunks.
-use Rattle.frame.proofs.Laws.{frame-in, frame-as}
+use Rattle.frame.proofs.Laws.{frame-as}
+use Rattle.chunks.proofs.Headers.{frame-in}
 use Rattle.frame.specs.Frame.{FrameWalk, subChunks}
 use Rattle.answer.specs.declared.Answer.{Answer}
 use Rattle.words.proofs.Laws.{span-length}

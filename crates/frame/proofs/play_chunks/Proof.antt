@@ -1,5 +1,6 @@
 -- `play_chunks` meets its contract. The invariant: all writes on the state as found are those of the sub-chunks left on the state as it is, and these are accepted.
-use Rattle.frame.proofs.Laws.{header-in, chunks-none, chunks-stop, chunks-first, chunks-rest, pixelsOn, coloursOn, pixels-more, colours-more}
+use Rattle.frame.proofs.Laws.{chunks-none, chunks-stop, chunks-first, chunks-rest, pixelsOn, coloursOn, pixels-more, colours-more}
+use Rattle.chunks.proofs.Headers.{header-in}
 use Rattle.frame.specs.Frame.{subChunks}
 use Rattle.answer.specs.declared.Answer.the-variants.{Done}
 use Rattle.words.specs.Writes.{written}

@@ -1,5 +1,6 @@
 -- `play_frame` meets its contract: a header at fault writes nothing, any other leads to its sub-chunks.
-use Rattle.frame.proofs.Laws.{pixelsOn, coloursOn, frame-in, frame-as}
+use Rattle.frame.proofs.Laws.{pixelsOn, coloursOn, frame-as}
+use Rattle.chunks.proofs.Headers.{frame-in}
 use Rattle.frame.specs.Frame.{FrameWalk, subChunks}
 use Rattle.words.proofs.Laws.{span-length}
 use Rattle.words.specs.Writes.{written}

@@ -25,7 +25,7 @@ use Rattle.listing.proofs.+list_children+list_container.Lts-list_childr
 use Rattle.listing.proofs.list_container.Reads as list-container
 use Rattle.listing.proofs.list_container.Kinds as list-container-kinds
 use Rattle.listing.proofs.+list_children+list_container.Lts-list_container as list-container-lts
-use Rattle.frame.proofs.header_at.Reads as header-at-reads
+use Rattle.chunks.proofs.header_at.Reads as header-at-reads
 use Rattle.listing.proofs.child_count.Reads as child-count-reads
 use Rattle.listing.proofs.head_bytes.Reads as head-bytes-reads
 use Rattle.listing.proofs.is_opened.Reads as is-opened-reads

@@ -5,7 +5,9 @@ use native.Mathlib.Omega.{arith}
 use native.Mathlib.Nat.{sub-zero}
 use lib.ListN.{take}
 use Rattle.answer.specs.declared.Refusal.the-variants.{NoRoom}
-use Rattle.walk.proofs.Laws.{ReelIn, head-in, frames-refused}
+use Rattle.chunks.specs.Spans.{HEADER-BYTES}
+use Rattle.chunks.proofs.Spans.{extent-in, extent-refused}
+use Rattle.reel_header.proofs.Laws.{ReelIn, head-in}
 use Rattle.listing.specs.Room.{Listed}
 use Rattle.listing.proofs.Laws.{listing-long, listing-head, listing-walk}
 use Rattle.listing.proofs.Short.{listed-in, refusal-short}
@@ -13,12 +15,10 @@ use borrow.Author.Needs.{needs}
 use Rattle.listing.proofs.list_text.Statement.{statement}
 use Rattle.listing.proofs.list_text.Tie as tie
 
-reel : (c : tie.After-known-told2)
-    → ReelIn (c .before .before .before .before .before .before .before .args .bytes .now) (c .before .width .given .0 .0) (c .before .width .given .0 .1 .0) (c .before .width .given .0 .1 .1 .0) (c .before .width .given .0 .1 .1 .1 .0)
+reel : (c : tie.After-known-told2) → let g = c .before .width .given .0 in ReelIn (c .before .before .before .before .before .before .before .args .bytes .now) (g .0) (g .1 .0) (g .1 .1 .0) (g .1 .1 .1 .0)
 reel c = head-in (c .before .before .before .before .before .before .before .args .bytes .now) _ (sym (c .before .before .before .head-of .ensures) ∙ c .before .width .given .1)
 
-listed : (c : tie.After-known-told2)
-    → Listed (take (c .before .width .given .0 .1 .1 .1 .0 - 0) (c .before .before .before .before .before .before .before .args .bytes .now)) (c .before .width .given .0 .0) (c .before .width .given .0 .1 .0) (c .before .width .given .0 .1 .1 .0)
+listed : (c : tie.After-known-told2) → let g = c .before .width .given .0 in Listed (take (g .1 .1 .1 .0 - 0) (c .before .before .before .before .before .before .before .args .bytes .now)) (g .0) (g .1 .0) (g .1 .1 .0)
 listed c = listed-in (c .before .before .before .before .before .before .before .args .bytes .now) _ _ _ _ _ (c .before .before .before .before .if1 .left) (reel c) (sub-zero (c .before .width .given .0 .1 .1 .1 .0))
 
 put-refused-requires : tie.Need-put-refused-requires
@@ -55,7 +55,7 @@ add-walk-frames : tie.Need-add-walk-frames
 add-walk-frames c = omega (arith, reel (c .before) .few-frames)
 
 walk-frames-requires : tie.Need-walk-frames-requires
-walk-frames-requires c κs = listed (c .before) .long
+walk-frames-requires c κs = search needs
 
 enum-known-e-2 : tie.Need-enum-known-e-2
 enum-known-e-2 c = search needs
@@ -63,11 +63,11 @@ enum-known-e-2 c = search needs
 put-refused-requires-3 : tie.Need-put-refused-requires-3
 put-refused-requires-3 c κs =
     let l = listed (c .before .before .before .before .before .before) in
-    let i = frames-refused _ _ 128 (l .long) _ _ (sym (c .before .before .before .before .walk-frames .ensures) ∙ c .before .before .e2 .given .1) in
+    let i = extent-refused _ _ HEADER-BYTES (l .long) _ _ (sym (c .before .before .before .before .walk-frames .ensures) ∙ c .before .before .e2 .given .1) in
     omega (arith, refusal-short (c .before .before .e2 .given .0 .0) (c .before .before .e2 .given .0 .1 .0) (omega (arith, i, l .short)), c .before .before .before .before .before .before .before .before .before .before .before .before .before .pre)
 
-enum-told : tie.Need-enum-told
-enum-told c = search needs
+enum-known-end : tie.Need-enum-known-end
+enum-known-end c = search needs
 
 sub-list-reel : tie.Need-sub-list-reel
 sub-list-reel c = search needs
@@ -76,10 +76,13 @@ part-list-reel-start : tie.Need-part-list-reel-start
 part-list-reel-start c = search needs
 
 part-list-reel-end : tie.Need-part-list-reel-end
-part-list-reel-end c = reel (c .before .before .before .before .before) .most
+part-list-reel-end c = reel (c .before .before .before .before .before .before) .most
 
 list-reel-requires : tie.Need-list-reel-requires
-list-reel-requires c κs = (listed (c .before .before .before .before .before .before), c .before .before .before .before .before .before .before .before .before .before .before .before .before .pre)
+list-reel-requires c κs =
+    let l = listed (c .before .before .before .before .before .before .before) in
+    let i = extent-in _ _ HEADER-BYTES (l .long) _ (sym (c .before .before .before .before .before .walk-frames .ensures) ∙ c .before .before .before .end .given .1) in
+    (l, i .0, i .1, c .before .before .before .before .before .before .before .before .before .before .before .before .before .before .pre)
 
 same-length-2 : tie.Need-same-length-2
 same-length-2 c = search needs
@@ -92,7 +95,7 @@ same-length-3 c = search needs
 
 returns-3 : tie.Need-returns-3
 returns-3 c =
-    rw (listing-walk (c .before .before .before .before .before .before .before .before .before .before .before .before .before .before .before .before .args .bytes .now) (c .before .before .before .before .before .before .before .before .before .before .before .before .before .if1 .left) _ _ _ _ (sym (c .before .before .before .before .before .before .before .before .before .before .before .before .head-of .ensures) ∙ c .before .before .before .before .before .before .before .before .before .before .width .given .1) _ (sub-zero (c .before .before .before .before .before .before .before .before .before .before .width .given .0 .1 .1 .1 .0)) _ (sym (c .before .before .before .before .before .before .before .walk-frames .ensures) ∙ c .before .before .before .before .before .e2 .given .1))
+    rw (listing-walk (c .before .before .before .before .before .before .before .before .before .before .before .before .before .before .before .before .args .bytes .now) (c .before .before .before .before .before .before .before .before .before .before .before .before .before .if1 .left) _ _ _ _ _ (sym (c .before .before .before .before .before .before .before .before .before .before .before .before .head-of .ensures) ∙ c .before .before .before .before .before .before .before .before .before .before .width .given .1) _ (sub-zero (c .before .before .before .before .before .before .before .before .before .before .width .given .0 .1 .1 .1 .0)) _ (sym (c .before .before .before .before .before .before .before .walk-frames .ensures) ∙ c .before .before .before .before .before .e2 .given .1))
     (c .before .before .put-refused3 .ensures)
 
 same-length-4 : tie.Need-same-length-4
@@ -100,7 +103,7 @@ same-length-4 c = search needs
 
 returns-4 : tie.Need-returns-4
 returns-4 c =
-    rw (listing-walk (c .before .before .before .before .before .before .before .before .before .before .before .before .before .before .before .before .args .bytes .now) (c .before .before .before .before .before .before .before .before .before .before .before .before .before .if1 .left) _ _ _ _ (sym (c .before .before .before .before .before .before .before .before .before .before .before .before .head-of .ensures) ∙ c .before .before .before .before .before .before .before .before .before .before .width .given .1) _ (sub-zero (c .before .before .before .before .before .before .before .before .before .before .width .given .0 .1 .1 .1 .0)) _ (sym (c .before .before .before .before .before .before .before .walk-frames .ensures) ∙ c .before .before .before .before .before .enum-told .given .1))
+    rw (listing-walk (c .before .before .before .before .before .before .before .before .before .before .before .before .before .before .before .before .before .args .bytes .now) (c .before .before .before .before .before .before .before .before .before .before .before .before .before .before .if1 .left) _ _ _ _ _ (sym (c .before .before .before .before .before .before .before .before .before .before .before .before .before .head-of .ensures) ∙ c .before .before .before .before .before .before .before .before .before .before .before .width .given .1) _ (sub-zero (c .before .before .before .before .before .before .before .before .before .before .before .width .given .0 .1 .1 .1 .0)) _ (sym (c .before .before .before .before .before .before .before .before .walk-frames .ensures) ∙ c .before .before .before .before .before .before .end .given .1))
     (c .before .before .list-reel .ensures)
 
 pub list-text-spec : {M : Type 1} → statement M
@@ -121,7 +124,7 @@ list-text-spec =
     walk-frames-requires
     enum-known-e-2
     put-refused-requires-3
-    enum-told
+    enum-known-end
     sub-list-reel
     part-list-reel-start
     part-list-reel-end

@@ -1,5 +1,5 @@
 -- `check_frames` meets its contract: a run that stopped gives its refusal; one that didn't is decided by comparing the pairs, which hold the ring's state and frame 1's.
-use mathlib.Core.Bool.{false}
+use Rattle.chunks.specs.declared.Layout.the-variants.{Loose}
 use Rattle.answer.specs.Answer.{state}
 use Rattle.reel.specs.Play.{shown, playAll}
 use Rattle.reel.proofs.Laws.{ring-stopped, ring-compared, ring-told}
@@ -36,7 +36,7 @@ returns c =
     let a = c .before .before .before .before .before .before .before .before .before .before .before .before .before .before .before .before .before .before .before .before .before .before .before .before .before .before .before .args in
     let p = c .before .before .before .before .before .before .before .before .before .before .before .before .before .before .before .before .before .play-all in
     let x = shown (p .result) (state (p .last .0) (p .last .1 .0)) (state (p .last .1 .1 .0) (p .last .1 .1 .1 .0)) in
-    ring-told x (playAll false (a .count) (a .width) (a .height) (a .b .now)) (p .ensures) _
+    ring-told x (playAll Loose (a .count) (a .width) (a .height) (a .b .now)) (p .ensures) _
     (ring-compared x _ _ (c .before .before .before .before .before .before .before .last .given .1) _ _ (c .before .same-state .ensures) (c .if1 .taken))
 
 same-length-5 : tie.Need-same-length-5
@@ -56,7 +56,7 @@ returns-2 c =
     let a = c .before .before .before .before .before .before .before .before .before .before .before .before .before .before .before .before .before .before .before .before .before .args in
     let p = c .before .before .before .before .before .before .before .before .before .before .before .play-all in
     let x = shown (p .result) (state (p .last .0) (p .last .1 .0)) (state (p .last .1 .1 .0) (p .last .1 .1 .1 .0)) in
-    ring-told x (playAll false (a .count) (a .width) (a .height) (a .b .now)) (p .ensures) _
+    ring-told x (playAll Loose (a .count) (a .width) (a .height) (a .b .now)) (p .ensures) _
     (ring-stopped x _ _ (c .before .e .given .1))
 
 same-length-9 : tie.Need-same-length-9
@@ -76,7 +76,7 @@ returns-3 c =
     let a = c .before .before .before .before .before .before .before .before .before .before .before .before .before .before .before .before .before .before .before .before .before .before .before .before .before .before .before .args in
     let p = c .before .before .before .before .before .before .before .before .before .before .before .before .before .before .before .before .before .play-all in
     let x = shown (p .result) (state (p .last .0) (p .last .1 .0)) (state (p .last .1 .1 .0) (p .last .1 .1 .1 .0)) in
-    ring-told x (playAll false (a .count) (a .width) (a .height) (a .b .now)) (p .ensures) _
+    ring-told x (playAll Loose (a .count) (a .width) (a .height) (a .b .now)) (p .ensures) _
     (ring-compared x _ _ (c .before .before .before .before .before .before .before .last .given .1) _ _ (c .before .same-state .ensures) (c .if1 .left))
 
 pub check-frames-spec : {M : Type 1} → statement M

@@ -8,16 +8,16 @@ use Rattle.words.proofs.Laws.{span-length}
 use Rattle.answer.proofs.Laws.{size-product}
 use Rattle.frame.specs.Reading.{enough}
 use Rattle.frame.proofs.Laws.{enough-in}
-use Rattle.walk.specs.Head.{headOf}
-use Rattle.walk.specs.declared.Head.the-variants.{Reel}
-use Rattle.walk.proofs.Laws.{ReelIn, head-in}
+use Rattle.reel_header.specs.Head.{headOf}
+use Rattle.reel_header.specs.declared.Head.the-variants.{Reel}
+use Rattle.reel_header.proofs.Laws.{ReelIn, head-in}
 use Rattle.reel.proofs.Laws.{exact-front, check-fault, check-short, check-second-short, check-laid}
 use borrow.Author.Needs.{needs}
 use Rattle.reel.proofs.check_reel.Statement.{statement}
 use Rattle.reel.proofs.check_reel.Tie as tie
 
 -- the header is a reel's
-headed : (c : tie.After-known-told2) → let g = c .before .width .given .0 in headOf (c .before .before .before .before .before .before .before .before .before .args .bytes .now) ≡ Reel (g .0) (g .1 .0) (g .1 .1 .0) (g .1 .1 .1 .0)
+headed : (c : tie.After-known-told2) → let g = c .before .width .given .0 in headOf (c .before .before .before .before .before .before .before .before .before .args .bytes .now) ≡ Reel (g .0) (g .1 .0) (g .1 .1 .0) (g .1 .1 .1 .0) (g .1 .1 .1 .1 .0)
 headed c = sym (c .before .before .before .head-of .ensures) ∙ c .before .width .given .1
 
 inside : (c : tie.After-known-told2) → let g = c .before .width .given .0 in ReelIn (c .before .before .before .before .before .before .before .before .before .args .bytes .now) (g .0) (g .1 .0) (g .1 .1 .0) (g .1 .1 .1 .0)
@@ -48,7 +48,7 @@ holds-requires c κs = search needs
 returns : tie.Need-returns
 returns c =
     let a = c .before .before .before .before .before .before .before .before .before .before .before .args in
-    sym (check-short (a .bytes .now) (a .first-picture .now) (a .first-palette .now) (a .second-picture .now) (a .second-palette .now) _ _ _ _ (headed (c .before .before)) (sym (c .before .holds .ensures) ∙ not-true _ (c .if1 .taken)))
+    sym (check-short (a .bytes .now) (a .first-picture .now) (a .first-palette .now) (a .second-picture .now) (a .second-palette .now) _ _ _ _ _ (headed (c .before .before)) (sym (c .before .holds .ensures) ∙ not-true _ (c .if1 .taken)))
 
 holds-requires-2 : tie.Need-holds-requires-2
 holds-requires-2 c κs = search needs
@@ -56,7 +56,7 @@ holds-requires-2 c κs = search needs
 returns-2 : tie.Need-returns-2
 returns-2 c =
     let a = c .before .before .before .before .before .before .before .before .before .before .before .before .before .args in
-    sym (check-second-short (a .bytes .now) (a .first-picture .now) (a .first-palette .now) (a .second-picture .now) (a .second-palette .now) _ _ _ _ (headed (c .before .before .before .before)) (sym (c .before .before .before .holds .ensures) ∙ not-false _ (c .before .before .if1 .left)) (sym (c .before .holds2 .ensures) ∙ not-true _ (c .if2 .taken)))
+    sym (check-second-short (a .bytes .now) (a .first-picture .now) (a .first-palette .now) (a .second-picture .now) (a .second-palette .now) _ _ _ _ _ (headed (c .before .before .before .before)) (sym (c .before .before .before .holds .ensures) ∙ not-false _ (c .before .before .if1 .left)) (sym (c .before .holds2 .ensures) ∙ not-true _ (c .if2 .taken)))
 
 sub-check-frames : tie.Need-sub-check-frames
 sub-check-frames c = search needs
@@ -145,7 +145,7 @@ returns-4 c =
     let a = c .before .before .before .before .before .before .before .before .before .before .before .before .before .before .before .before .before .before .before .before .before .before .before .before .before .before .before .args in
     let g = c .before .before .before .before .before .before .before .before .before .before .before .before .before .before .before .before .before .before .before .width .given .0 in
     let f = c .before .before .before .before .before .before .before .before .check-frames in
-    check-laid (a .bytes .now) (a .first-picture .now) (a .first-palette .now) (a .second-picture .now) (a .second-palette .now) (g .0) (g .1 .0) (g .1 .1 .0) (g .1 .1 .1 .0) (headed (c .before .before .before .before .before .before .before .before .before .before .before .before .before .before .before .before .before .before)) (first (c .before .before .before .before .before .before .before .before .before .before .before .before .before .before)) (second (c .before .before .before .before .before .before .before .before .before .before .before .before .before .before))
+    check-laid (a .bytes .now) (a .first-picture .now) (a .first-palette .now) (a .second-picture .now) (a .second-palette .now) (g .0) (g .1 .0) (g .1 .1 .0) (g .1 .1 .1 .0) (g .1 .1 .1 .1 .0) (headed (c .before .before .before .before .before .before .before .before .before .before .before .before .before .before .before .before .before .before)) (first (c .before .before .before .before .before .before .before .before .before .before .before .before .before .before)) (second (c .before .before .before .before .before .before .before .before .before .before .before .before .before .before))
     (g .0 * g .1 .0 - 0) (g .1 .1 .1 .0 - 0) (omega arith) (omega arith) (f .result) _ _ _ _ (f .ensures .0) (f .ensures .1 .0) (f .ensures .1 .1)
 
 pub check-reel-spec : {M : Type 1} → statement M

@@ -7,9 +7,9 @@ use Rattle.words.specs.Words.{part}
 use Rattle.words.proofs.Laws.{span-length}
 use Rattle.answer.proofs.Laws.{size-in}
 use Rattle.answer.specs.Answer.{state}
-use Rattle.walk.specs.Walk.{stepAt}
-use Rattle.walk.specs.declared.Next.the-variants.{Frame}
-use Rattle.walk.proofs.Laws.{NextIn, step-in}
+use Rattle.chunks.specs.Spans.{nextAt}
+use Rattle.chunks.specs.declared.Next.the-variants.{Frame}
+use Rattle.chunks.proofs.Spans.{NextIn, next-in}
 use Rattle.reel.specs.Play.{ran}
 use Rattle.reel.specs.declared.Ran.the-variants.{To}
 use Rattle.frame.proofs.Theorems.{refused-within}
@@ -19,12 +19,12 @@ use Rattle.reel.proofs.one_frame.Statement.{statement}
 use Rattle.reel.proofs.one_frame.Tie as tie
 
 -- the step led to a frame
-stepped : (c : tie.After-known-told2) → let a = c .before .before .before .before .before .before .before .args in stepAt (a .packed) (a .b .now) (a .at) ≡ Frame (c .before .from .given .0 .0) (c .before .from .given .0 .1 .0)
+stepped : (c : tie.After-known-told2) → let a = c .before .before .before .before .before .before .before .args in nextAt (a .layout) (a .b .now) (a .at) ≡ Frame (c .before .from .given .0 .0) (c .before .from .given .0 .1 .0)
 stepped c = sym (c .before .before .before .step-at .ensures) ∙ c .before .from .given .1
 
 -- it lies within the bytes
 inside : (c : tie.After-known-told2) → let a = c .before .before .before .before .before .before .before .args in NextIn (a .b .now) (a .at) (Frame (c .before .from .given .0 .0) (c .before .from .given .0 .1 .0))
-inside c = step-in (c .before .before .before .before .before .before .before .args .packed) (c .before .before .before .before .before .before .before .args .b .now) (c .before .before .before .before .before .before .before .args .at) (c .before .before .before .before .before .before .before .pre .0) _ (stepped c)
+inside c = next-in (c .before .before .before .before .before .before .before .args .layout) (c .before .before .before .before .before .before .before .args .b .now) (c .before .before .before .before .before .before .before .args .at) _ (stepped c)
 
 step-at-requires : tie.Need-step-at-requires
 step-at-requires c κs = search needs
@@ -77,12 +77,12 @@ play-frame-requires c κs = (exact-room (c .before .before .before .before .befo
 returns : tie.Need-returns
 returns c =
     let a = c .before .before .before .before .before .before .before .args in
-    sym (one-fault (a .packed) (a .width) (a .height) (a .b .now) (a .at) (state (a .picture .now) (a .palette .now)) _ _ (sym (c .before .before .before .step-at .ensures) ∙ c .before .e .given .1))
+    sym (one-fault (a .layout) (a .width) (a .height) (a .b .now) (a .at) (state (a .picture .now) (a .palette .now)) _ _ (sym (c .before .before .before .step-at .ensures) ∙ c .before .e .given .1))
 
 returns-2 : tie.Need-returns-2
 returns-2 c =
     let a = c .before .before .before .before .before .before .before .before .before .before .before .before .args in
-    sym (one-refused (a .packed) (a .width) (a .height) (a .b .now) (a .at) (state (a .picture .now) (a .palette .now)) _ _ (stepped (c .before .before .before .before .before)) _ _ (sym (c .before .before .before .check-frame .ensures) ∙ c .before .e2 .given .1))
+    sym (one-refused (a .layout) (a .width) (a .height) (a .b .now) (a .at) (state (a .picture .now) (a .palette .now)) _ _ (stepped (c .before .before .before .before .before)) _ _ (sym (c .before .before .before .check-frame .ensures) ∙ c .before .e2 .given .1))
 
 same-length : tie.Need-same-length
 same-length c = search needs
@@ -94,7 +94,7 @@ returns-3 : tie.Need-returns-3
 returns-3 c =
     let a = c .before .before .before .before .before .before .before .before .before .before .before .before .before .before .before .before .before .before .before .args in
     ap₂ (λ (p q : List ℕ). ran (To (c .before .before .before .before .before .before .before .before .before .before .before .before .before .from .given .0 .0) (c .before .before .before .before .before .before .before .before .before .before .before .before .before .from .given .0 .1 .0)) (state p q)) (c .before .before .before .before .play-frame .ensures .0) (c .before .before .before .before .play-frame .ensures .1)
-    ∙ sym (one-played (a .packed) (a .width) (a .height) (a .b .now) (a .at) (state (a .picture .now) (a .palette .now)) _ _ (stepped (c .before .before .before .before .before .before .before .before .before .before .before .before)) (sym (c .before .before .before .before .before .before .before .before .before .before .check-frame .ensures) ∙ c .before .before .before .before .before .before .before .before .enum-told .given .1))
+    ∙ sym (one-played (a .layout) (a .width) (a .height) (a .b .now) (a .at) (state (a .picture .now) (a .palette .now)) _ _ (stepped (c .before .before .before .before .before .before .before .before .before .before .before .before)) (sym (c .before .before .before .before .before .before .before .before .before .before .check-frame .ensures) ∙ c .before .before .before .before .before .before .before .before .enum-told .given .1))
 
 pub one-frame-spec : {M : Type 1} → statement M
 one-frame-spec =

@@ -12,11 +12,11 @@ use Rattle.reel.proofs.play_all.Tie as tie
 
 -- frame 1 was accepted
 accepted : (c : tie.After-play-frames-arg2) → let a = c .before .before .before .before .before .before .before .before .before .before .before .before .before .before .before .before .before .before .before .before .before .before .before .args in let p = c .before .before .before .before .before .before .before .before .before .before .before .before .before .play-first in
-    oneFrame (a .packed) (a .width) (a .height) (a .b .now) 128 (blank (a .width * a .height)) ≡ ran (To (c .before .before .before .last .given .0 .0) (c .before .before .before .last .given .0 .1 .0)) (state (p .last .0) (p .last .1 .0))
+    oneFrame (a .layout) (a .width) (a .height) (a .b .now) 128 (blank (a .width * a .height)) ≡ ran (To (c .before .before .before .last .given .0 .0) (c .before .before .before .last .given .0 .1 .0)) (state (p .last .0) (p .last .1 .0))
 accepted c =
     let a = c .before .before .before .before .before .before .before .before .before .before .before .before .before .before .before .before .before .before .before .before .before .before .before .args in
     let p = c .before .before .before .before .before .before .before .before .before .before .before .before .before .play-first in
-    one-ran (a .packed) (a .width) (a .height) (a .b .now) 128 (blank (a .width * a .height)) (p .result) _ (state (p .last .0) (p .last .1 .0)) (p .ensures .0) (c .before .before .before .last .given .1)
+    one-ran (a .layout) (a .width) (a .height) (a .b .now) 128 (blank (a .width * a .height)) (p .result) _ (state (p .last .0) (p .last .1 .0)) (p .ensures .0) (c .before .before .before .last .given .1)
 
 play-first-requires : tie.Need-play-first-requires
 play-first-requires c κs = search needs
@@ -31,7 +31,7 @@ play-frames-requires : tie.Need-play-frames-requires
 play-frames-requires c κs =
     let a = c .before .before .before .before .before .before .before .before .before .before .before .before .before .before .before .before .before .before .before .before .before .before .before .args in
     let p = c .before .before .before .before .before .before .before .before .before .before .before .before .before .play-first in (
-      one-in (a .packed) (a .width) (a .height) (a .b .now) 128 (blank (a .width * a .height)) (c .before .before .before .before .before .before .before .before .before .before .before .before .before .before .before .before .before .before .before .before .before .before .before .pre .0) _ (ap (λ (x : Played). x .result) (accepted c)) .2,
+      one-in (a .layout) (a .width) (a .height) (a .b .now) 128 (blank (a .width * a .height)) (c .before .before .before .before .before .before .before .before .before .before .before .before .before .before .before .before .before .before .before .before .before .before .before .pre .0) _ (ap (λ (x : Played). x .result) (accepted c)) .2,
       exact-kept (a .width) (a .height) (a .picture .now) (a .palette .now) (c .before .before .before .before .before .before .before .before .before .before .before .before .before .before .before .before .before .before .before .before .before .before .before .pre .1) _ _ (p .kept .0) (p .kept .1 .0),
     )
 
@@ -53,7 +53,7 @@ returns c =
     let p = c .before .before .before .before .before .before .before .before .before .before .before .play-first in
     let t = state (p .last .0) (p .last .1 .0) in
     ap₂ (λ (x y : List ℕ). shown (Stopped (c .before .e .given .0 .0) (c .before .e .given .0 .1 .0)) t (state x y)) (p .ensures .1 .0) (p .ensures .1 .1)
-    ∙ sym (all-stopped (a .packed) (a .more) (a .width) (a .height) (a .b .now) t _ _ (one-ran (a .packed) (a .width) (a .height) (a .b .now) 128 (blank (a .width * a .height)) (p .result) _ t (p .ensures .0) (c .before .e .given .1)))
+    ∙ sym (all-stopped (a .layout) (a .more) (a .width) (a .height) (a .b .now) t _ _ (one-ran (a .layout) (a .width) (a .height) (a .b .now) 128 (blank (a .width * a .height)) (p .result) _ t (p .ensures .0) (c .before .e .given .1)))
 
 same-length-5 : tie.Need-same-length-5
 same-length-5 c = search needs
@@ -73,7 +73,7 @@ returns-2 c =
     let p = c .before .before .before .before .before .before .before .before .before .before .before .before .before .before .before .before .before .before .play-first in
     let f = c .before .before .before .before .play-frames in
     ap₂ (λ (x y : List ℕ). shown (f .result) (state (f .last .0) (f .last .1 .0)) (state x y)) (p .ensures .1 .0) (p .ensures .1 .1)
-    ∙ sym (all-more (a .packed) (a .more) (a .width) (a .height) (a .b .now) (state (p .last .0) (p .last .1 .0)) _ _ (accepted (c .before .before .before .before .before)) _ (f .ensures))
+    ∙ sym (all-more (a .layout) (a .more) (a .width) (a .height) (a .b .now) (state (p .last .0) (p .last .1 .0)) _ _ (accepted (c .before .before .before .before .before)) _ (f .ensures))
 
 pub play-all-spec : {M : Type 1} → statement M
 play-all-spec =

@@ -36,7 +36,7 @@ same-length-4 c = search needs
 returns : tie.Need-returns
 returns c =
     let a = c .before .before .before .before .before .before .before .before .before .before .before .before .before .before .before .before .before .before .before .before .before .before .before .before .before .before .before .before .before .args in (
-      c .before .before .before .before .before .before .before .before .before .before .before .before .before .before .one-frame .ensures ∙ ap (λ (s : State). oneFrame (a .packed) (a .width) (a .height) (a .b .now) 128 s) (c .before .before .before .before .before .before .before .before .before .before .before .before .before .before .before .before .before .before .before .before .before .clear .ensures),
+      c .before .before .before .before .before .before .before .before .before .before .before .before .before .before .one-frame .ensures ∙ ap (λ (s : State). oneFrame (a .layout) (a .width) (a .height) (a .b .now) 128 s) (c .before .before .before .before .before .before .before .before .before .before .before .before .before .before .before .before .before .before .before .before .before .clear .ensures),
       (c .before .before .before .before .before .before .before .copy .ensures, c .before .before .copy2 .ensures),
     )
 

@@ -11,21 +11,21 @@ use Rattle.reel.proofs.play_frames.Statement.{statement}
 use Rattle.reel.proofs.play_frames.Tie as tie
 
 abbrev Inv-loop : tie.InvT-loop
-Inv-loop picture₀ palette₀ b packed count before start width height last₀ at₀ left₀ picture palette last at left =
+Inv-loop picture₀ palette₀ b layout count before start width height last₀ at₀ left₀ picture palette last at left =
     (at ≤ length b) × Exact width height picture palette
-    × (frames packed width height b count before start (state picture₀ palette₀) ≡ frames packed width height b left last at (state picture palette))
+    × (frames layout width height b count before start (state picture₀ palette₀) ≡ frames layout width height b left last at (state picture palette))
 
 abbrev μ-loop : tie.MeasureT-loop
-μ-loop picture₀ palette₀ b packed count before start width height last₀ at₀ left₀ picture palette last at left = left
+μ-loop picture₀ palette₀ b layout count before start width height last₀ at₀ left₀ picture palette last at left = left
 
 -- the frame was accepted
 accepted : (c : tie.After-known-told2 Inv-loop μ-loop) → let a = c .before .before .before .before .before .before .before .before .before .before .before .before .before .before .before .args in let l = c .before .before .before .before .before .before .before .before .before .before .before .loop in let p = c .before .before .before .before .before .before .before .one-frame in
-    oneFrame (a .packed) (a .width) (a .height) (a .b .now) (l .at) (state (l .picture) (l .palette)) ≡ ran (To (c .before .from .given .0 .0) (c .before .from .given .0 .1 .0)) (state (p .last .0) (p .last .1 .0))
+    oneFrame (a .layout) (a .width) (a .height) (a .b .now) (l .at) (state (l .picture) (l .palette)) ≡ ran (To (c .before .from .given .0 .0) (c .before .from .given .0 .1 .0)) (state (p .last .0) (p .last .1 .0))
 accepted c =
     let a = c .before .before .before .before .before .before .before .before .before .before .before .before .before .before .before .args in
     let l = c .before .before .before .before .before .before .before .before .before .before .before .loop in
     let p = c .before .before .before .before .before .before .before .one-frame in
-    one-ran (a .packed) (a .width) (a .height) (a .b .now) (l .at) (state (l .picture) (l .palette)) (p .result) _ (state (p .last .0) (p .last .1 .0)) (p .ensures) (c .before .from .given .1)
+    one-ran (a .layout) (a .width) (a .height) (a .b .now) (l .at) (state (l .picture) (l .palette)) (p .result) _ (state (p .last .0) (p .last .1 .0)) (p .ensures) (c .before .from .given .1)
 
 loop-holds : tie.Need-loop-holds Inv-loop μ-loop
 loop-holds c = (c .before .before .before .pre .0, c .before .before .before .pre .1, refl)
@@ -49,7 +49,7 @@ returns c =
     let p = c .before .before .before .before .before .before .before .one-frame in
     let s = state (l .picture) (l .palette) in
     let t = state (p .last .0) (p .last .1 .0) in
-    sym (l .inv .2 ∙ frames-stopped (a .packed) (a .width) (a .height) (a .b .now) (l .left) (l .last) (l .at) s (c .before .before .before .before .before .before .before .before .before .before .loop-test .taken) t _ _ (one-ran (a .packed) (a .width) (a .height) (a .b .now) (l .at) s (p .result) _ t (p .ensures) (c .before .e .given .1)))
+    sym (l .inv .2 ∙ frames-stopped (a .layout) (a .width) (a .height) (a .b .now) (l .left) (l .last) (l .at) s (c .before .before .before .before .before .before .before .before .before .before .loop-test .taken) t _ _ (one-ran (a .layout) (a .width) (a .height) (a .b .now) (l .at) s (p .result) _ t (p .ensures) (c .before .e .given .1)))
 
 enum-known-from : tie.Need-enum-known-from Inv-loop μ-loop
 enum-known-from c = search needs
@@ -65,9 +65,9 @@ loop-again c =
     let a = c .before .before .before .before .before .before .before .before .before .before .before .before .before .before .before .args in
     let l = c .before .before .before .before .before .before .before .before .before .before .before .loop in
     let p = c .before .before .before .before .before .before .before .one-frame in (
-      one-in (a .packed) (a .width) (a .height) (a .b .now) (l .at) (state (l .picture) (l .palette)) (l .inv .0) _ (ap (λ (x : Played). x .result) (accepted c)) .2,
+      one-in (a .layout) (a .width) (a .height) (a .b .now) (l .at) (state (l .picture) (l .palette)) (l .inv .0) _ (ap (λ (x : Played). x .result) (accepted c)) .2,
       exact-kept (a .width) (a .height) (l .picture) (l .palette) (l .inv .1) _ _ (p .kept .0) (p .kept .1 .0),
-      l .inv .2 ∙ frames-more (a .packed) (a .width) (a .height) (a .b .now) (l .left) (l .last) (l .at) (state (l .picture) (l .palette)) (c .before .before .before .before .before .before .before .before .before .before .loop-test .taken) _ _ _ (accepted c),
+      l .inv .2 ∙ frames-more (a .layout) (a .width) (a .height) (a .b .now) (l .left) (l .last) (l .at) (state (l .picture) (l .palette)) (c .before .before .before .before .before .before .before .before .before .before .loop-test .taken) _ _ _ (accepted c),
     )
 
 same-length-3 : tie.Need-same-length-3 Inv-loop μ-loop
@@ -80,7 +80,7 @@ returns-2 : tie.Need-returns-2 Inv-loop μ-loop
 returns-2 c =
     let a = c .before .before .before .before .before .args in
     let l = c .before .loop in
-    sym (l .inv .2 ∙ frames-none (a .packed) (a .width) (a .height) (a .b .now) (l .left) (l .last) (l .at) (state (l .picture) (l .palette)) (c .loop-test .left))
+    sym (l .inv .2 ∙ frames-none (a .layout) (a .width) (a .height) (a .b .now) (l .left) (l .last) (l .at) (state (l .picture) (l .palette)) (c .loop-test .left))
 
 pub play-frames-spec : {M : Type 1} → statement M
 play-frames-spec =

@@ -1,21 +1,22 @@
 -- `check_trailer` meets its contract: the header and the frame chunks are walked first, and only where all frames were met is what follows the size compared.
-use mathlib.Core.Path.{_≡_, _∙_, sym, refl}
+use mathlib.Core.Path.{_≡_, _∙_, sym, refl, ap}
 use mathlib.Core.Bool.{true, false}
 use Prim.Native.Nat.{_+_, _-_}
 use native.Mathlib.Omega.{arith}
 use borrow.Author.Needs.{needs}
 use lib.ListN.{length, take}
 use Rattle.answer.specs.declared.Answer.the-variants.{Done}
-use Rattle.walk.specs.Head.{headOf}
-use Rattle.walk.specs.Walk.{topFrames}
-use Rattle.walk.specs.declared.Head.the-variants.{Reel}
-use Rattle.walk.proofs.Laws.{ReelIn, head-in}
-use Rattle.trailer.proofs.Laws.{walked-long, walked-in, checked-fault, checked-refused, checked-bare, checked-compared}
+use Rattle.reel_header.specs.Head.{headOf}
+use Rattle.chunks.specs.Spans.{HEADER-BYTES, topFrames}
+use Rattle.chunks.proofs.Spans.{answerOf, extent-answer}
+use Rattle.reel_header.specs.declared.Head.the-variants.{Reel}
+use Rattle.reel_header.proofs.Laws.{ReelIn, head-in}
+use Rattle.trailer.proofs.Laws.{walked-in, checked-fault, checked-refused, checked-bare, checked-compared}
 use Rattle.trailer.proofs.check_trailer.Statement.{statement}
 use Rattle.trailer.proofs.check_trailer.Tie as tie
 
 -- the header is a reel's
-headed : (c : tie.After-known-told2) → let g = c .before .frames .given .0 in headOf (c .before .before .before .before .before .args .bytes .now) ≡ Reel (g .0) (g .1 .0) (g .1 .1 .0) (g .1 .1 .1 .0)
+headed : (c : tie.After-known-told2) → let g = c .before .frames .given .0 in headOf (c .before .before .before .before .before .args .bytes .now) ≡ Reel (g .0) (g .1 .0) (g .1 .1 .0) (g .1 .1 .1 .0) (g .1 .1 .1 .1 .0)
 headed c = sym (c .before .before .before .head-of .ensures) ∙ c .before .frames .given .1
 
 -- and its fields are in range
@@ -23,8 +24,8 @@ inside : (c : tie.After-known-told2) → let g = c .before .frames .given .0 in 
 inside c = head-in _ _ (headed c)
 
 -- all its frames were met
-all-met : (c : tie.After-enum-told) → let g = c .before .before .before .before .before .frames .given .0 in topFrames (take (g .1 .1 .1 .0 - 0) (c .before .before .before .before .before .before .before .before .before .args .bytes .now)) (g .1 .1 .0 + 1) 128 .answer ≡ Done
-all-met c = sym (c .before .before .walk-frames .ensures) ∙ c .enum-told .given .1
+all-met : (c : tie.After-enum-told) → let g = c .before .before .before .before .before .frames .given .0 in topFrames (take (g .1 .1 .1 .0 - 0) (c .before .before .before .before .before .before .before .before .before .args .bytes .now)) (g .1 .1 .0 + 1) HEADER-BYTES .answer ≡ Done
+all-met c = extent-answer _ _ HEADER-BYTES ∙ ap answerOf (sym (c .before .before .walk-frames .ensures) ∙ c .enum-told .given .1)
 
 head-of-requires : tie.Need-head-of-requires
 head-of-requires c κs = search needs
@@ -48,7 +49,7 @@ add-walk-frames : tie.Need-add-walk-frames
 add-walk-frames c = omega (arith, inside (c .before) .few-frames)
 
 walk-frames-requires : tie.Need-walk-frames-requires
-walk-frames-requires c κs = let g = c .before .before .frames .given .0 in walked-long (c .before .before .before .before .before .before .args .bytes .now) (g .0) (g .1 .0) (g .1 .1 .0) (g .1 .1 .1 .0) (headed (c .before)) (g .1 .1 .1 .0 - 0) (g .1 .1 .0 + 1) (omega arith) (omega arith)
+walk-frames-requires c κs = search needs
 
 enum-known-e-2 : tie.Need-enum-known-e-2
 enum-known-e-2 c = search needs
@@ -59,7 +60,7 @@ enum-told c = search needs
 returns : tie.Need-returns
 returns c =
     let g = c .before .before .before .before .before .before .frames .given .0 in
-    sym (checked-bare (c .before .before .before .before .before .before .before .before .before .before .args .bytes .now) (g .0) (g .1 .0) (g .1 .1 .0) (g .1 .1 .1 .0) (headed (c .before .before .before .before .before)) (g .1 .1 .1 .0 - 0) (g .1 .1 .0 + 1) (omega arith) (omega arith) (all-met (c .before)) (c .if1 .taken))
+    sym (checked-bare (c .before .before .before .before .before .before .before .before .before .before .args .bytes .now) (g .0) (g .1 .0) (g .1 .1 .0) (g .1 .1 .1 .0) (g .1 .1 .1 .1 .0) (headed (c .before .before .before .before .before)) (g .1 .1 .1 .0 - 0) (g .1 .1 .0 + 1) (omega arith) (omega arith) (all-met (c .before)) (c .if1 .taken))
 
 sub-same-trailer : tie.Need-sub-same-trailer
 sub-same-trailer c = inside (c .before .before .before .before .before) .most
@@ -85,14 +86,14 @@ add-same-trailer c = omega (arith, inside (c .before .before .before .before .be
 same-trailer-requires : tie.Need-same-trailer-requires
 same-trailer-requires c κs =
     let g = c .before .before .before .before .before .before .before .before .frames .given .0 in
-    walked-in (c .before .before .before .before .before .before .before .before .before .before .before .before .args .bytes .now) (g .0) (g .1 .0) (g .1 .1 .0) (g .1 .1 .1 .0) (headed (c .before .before .before .before .before .before .before)) (g .1 .1 .1 .0 - 0) (g .1 .1 .0 + 1) (omega arith) (omega arith) (all-met (c .before .before .before))
+    walked-in (c .before .before .before .before .before .before .before .before .before .before .before .before .args .bytes .now) (g .0) (g .1 .0) (g .1 .1 .0) (g .1 .1 .1 .0) (g .1 .1 .1 .1 .0) (headed (c .before .before .before .before .before .before .before)) (g .1 .1 .1 .0 - 0) (g .1 .1 .0 + 1) (omega arith) (omega arith) (all-met (c .before .before .before))
 
 returns-2 : tie.Need-returns-2
 returns-2 c =
     let b = c .before .before .before .before .before .before .before .before .before .before .before .before .before .before .args .bytes .now in
     let g = c .before .before .before .before .before .before .before .before .before .before .frames .given .0 in
     let i = inside (c .before .before .before .before .before .before .before .before .before) in
-    sym (checked-compared b (g .0) (g .1 .0) (g .1 .1 .0) (g .1 .1 .1 .0) (headed (c .before .before .before .before .before .before .before .before .before)) (g .1 .1 .1 .0 - 0) (g .1 .1 .0 + 1) (omega arith) (omega arith) (all-met (c .before .before .before .before .before))
+    sym (checked-compared b (g .0) (g .1 .0) (g .1 .1 .0) (g .1 .1 .1 .0) (g .1 .1 .1 .1 .0) (headed (c .before .before .before .before .before .before .before .before .before)) (g .1 .1 .1 .0 - 0) (g .1 .1 .0 + 1) (omega arith) (omega arith) (all-met (c .before .before .before .before .before))
     (omega (arith, i .most, c .before .before .before .before .if1 .left)) (length b - g .1 .1 .1 .0) refl _ true (c .before .same-trailer .ensures) (c .if2 .taken))
 
 returns-3 : tie.Need-returns-3
@@ -101,14 +102,14 @@ returns-3 c = sym (checked-fault (c .before .before .before .before .before .arg
 returns-4 : tie.Need-returns-4
 returns-4 c =
     let g = c .before .before .before .before .before .before .frames .given .0 in
-    sym (checked-refused (c .before .before .before .before .before .before .before .before .before .before .args .bytes .now) (g .0) (g .1 .0) (g .1 .1 .0) (g .1 .1 .1 .0) (headed (c .before .before .before .before .before)) (g .1 .1 .1 .0 - 0) (g .1 .1 .0 + 1) (omega arith) (omega arith) _ _ (sym (c .before .before .before .walk-frames .ensures) ∙ c .before .e2 .given .1))
+    sym (checked-refused (c .before .before .before .before .before .before .before .before .before .before .args .bytes .now) (g .0) (g .1 .0) (g .1 .1 .0) (g .1 .1 .1 .0) (g .1 .1 .1 .1 .0) (headed (c .before .before .before .before .before)) (g .1 .1 .1 .0 - 0) (g .1 .1 .0 + 1) (omega arith) (omega arith) _ _ (extent-answer _ _ HEADER-BYTES ∙ ap answerOf (sym (c .before .before .before .walk-frames .ensures) ∙ c .before .e2 .given .1)))
 
 returns-5 : tie.Need-returns-5
 returns-5 c =
     let b = c .before .before .before .before .before .before .before .before .before .before .before .before .before .before .args .bytes .now in
     let g = c .before .before .before .before .before .before .before .before .before .before .frames .given .0 in
     let i = inside (c .before .before .before .before .before .before .before .before .before) in
-    sym (checked-compared b (g .0) (g .1 .0) (g .1 .1 .0) (g .1 .1 .1 .0) (headed (c .before .before .before .before .before .before .before .before .before)) (g .1 .1 .1 .0 - 0) (g .1 .1 .0 + 1) (omega arith) (omega arith) (all-met (c .before .before .before .before .before))
+    sym (checked-compared b (g .0) (g .1 .0) (g .1 .1 .0) (g .1 .1 .1 .0) (g .1 .1 .1 .1 .0) (headed (c .before .before .before .before .before .before .before .before .before)) (g .1 .1 .1 .0 - 0) (g .1 .1 .0 + 1) (omega arith) (omega arith) (all-met (c .before .before .before .before .before))
     (omega (arith, i .most, c .before .before .before .before .if1 .left)) (length b - g .1 .1 .1 .0) refl _ false (c .before .same-trailer .ensures) (c .if2 .left))
 
 pub check-trailer-spec : {M : Type 1} → statement M

@@ -1,13 +1,13 @@
 -- `put_index` meets its contract. The invariant: the whole index stored at the front of the bytes as found is the rest of the index stored behind the entries that stand there.
 use mathlib.Core.Path.{_≡_, _∙_, sym, ap, refl}
-use mathlib.Core.Bool.{false}
+use Rattle.chunks.specs.declared.Layout.the-variants.{Loose}
 use Prim.Native.Nat.{_≤_, _+_, _*_}
 use native.Mathlib.Omega.{arith}
 use borrow.Author.Needs.{needs}
 use lib.ListN.{length}
 use Rattle.words.specs.Writes.{put}
-use Rattle.walk.specs.Walk.{Found, topFrames}
-use Rattle.walk.proofs.Laws.{step-in, found-none, found-fault, found-more}
+use Rattle.chunks.specs.Spans.{Found, topFrames}
+use Rattle.chunks.proofs.Spans.{next-in, found-none, found-fault, found-more}
 use Rattle.trailer.specs.Trailer.{index}
 use Rattle.trailer.proofs.Laws.{index-none, index-more}
 use Rattle.trailer.proofs.put_index.Statement.{statement}
@@ -57,7 +57,7 @@ loop-again : tie.Need-loop-again Inv-loop μ-loop
 loop-again c =
     let l = c .before .before .before .before .before .before .before .before .before .loop in
     let q = sym (c .before .before .before .before .before .before .before .next-at .ensures) ∙ c .before .before .before .before .before .from .given .1 in (
-      step-in false (c .before .before .before .before .before .before .before .before .before .before .before .before .args .b .now) (l .at) (l .inv .0) _ q .2,
+      next-in Loose (c .before .before .before .before .before .before .before .before .before .before .before .before .args .b .now) (l .at) _ q .2,
       search needs,
       search needs,
       l .inv .3 ∙ index-more (l .out) (l .to) _ _ (c .before .before .put-u32 .last .0) _ (ap (λ (x : Found). x .offsets) (found-more (c .before .before .before .before .before .before .before .before .before .before .before .before .args .b .now) (l .left) (l .at) (c .before .before .before .before .before .before .before .before .loop-test .taken) _ _ q)) (omega arith) (c .before .before .put-u32 .ensures),

@@ -5,7 +5,7 @@ use native.Mathlib.Omega.{arith}
 use borrow.Author.Needs.{needs}
 use Rattle.words.specs.Words.{same}
 use Rattle.words.proofs.Laws.{same-other}
-use Rattle.walk.specs.Walk.{topFrames}
+use Rattle.chunks.specs.Spans.{topFrames}
 use Rattle.trailer.specs.Trailer.{trailerOf}
 use Rattle.trailer.proofs.Laws.{trailer-many, padded-front}
 use Rattle.trailer.proofs.same_trailer.Statement.{statement}

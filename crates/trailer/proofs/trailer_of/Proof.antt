@@ -2,8 +2,8 @@
 use Prim.Native.Nat.{_+_, _*_}
 use native.Mathlib.Omega.{arith}
 use borrow.Author.Needs.{needs}
-use Rattle.walk.specs.Walk.{topFrames}
-use Rattle.walk.proofs.Laws.{found-many}
+use Rattle.chunks.specs.Spans.{topFrames}
+use Rattle.chunks.proofs.Spans.{found-many}
 use Rattle.trailer.proofs.Laws.{back-length, trailer-stored, back}
 use Rattle.trailer.proofs.trailer_of.Statement.{statement}
 use Rattle.trailer.proofs.trailer_of.Tie as tie

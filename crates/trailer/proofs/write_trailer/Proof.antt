@@ -1,20 +1,21 @@
 -- `write_trailer` meets its contract: the header and the frame chunks are walked first, room is asked for last, and the part behind the size comes back as the trailer.
-use mathlib.Core.Path.{_≡_, _∙_, sym}
+use mathlib.Core.Path.{_≡_, _∙_, sym, ap}
 use Prim.Native.Nat.{_+_, _*_, _-_}
 use native.Mathlib.Omega.{arith}
 use borrow.Author.Needs.{needs}
 use lib.ListN.{take}
 use Rattle.answer.specs.declared.Answer.the-variants.{Done}
-use Rattle.walk.specs.Head.{headOf}
-use Rattle.walk.specs.Walk.{topFrames}
-use Rattle.walk.specs.declared.Head.the-variants.{Reel}
-use Rattle.walk.proofs.Laws.{ReelIn, head-in}
-use Rattle.trailer.proofs.Laws.{trailer-many, walked-long, walked-in, wrote-fault, wrote-refused, wrote-short, wrote-back}
+use Rattle.reel_header.specs.Head.{headOf}
+use Rattle.chunks.specs.Spans.{HEADER-BYTES, topFrames}
+use Rattle.chunks.proofs.Spans.{answerOf, extent-answer}
+use Rattle.reel_header.specs.declared.Head.the-variants.{Reel}
+use Rattle.reel_header.proofs.Laws.{ReelIn, head-in}
+use Rattle.trailer.proofs.Laws.{trailer-many, walked-in, wrote-fault, wrote-refused, wrote-short, wrote-back}
 use Rattle.trailer.proofs.write_trailer.Statement.{statement}
 use Rattle.trailer.proofs.write_trailer.Tie as tie
 
 -- the header is a reel's
-headed : (c : tie.After-known-told2) → let g = c .before .frames .given .0 in headOf (c .before .before .before .before .before .before .args .bytes .now) ≡ Reel (g .0) (g .1 .0) (g .1 .1 .0) (g .1 .1 .1 .0)
+headed : (c : tie.After-known-told2) → let g = c .before .frames .given .0 in headOf (c .before .before .before .before .before .before .args .bytes .now) ≡ Reel (g .0) (g .1 .0) (g .1 .1 .0) (g .1 .1 .1 .0) (g .1 .1 .1 .1 .0)
 headed c = sym (c .before .before .before .head-of .ensures) ∙ c .before .frames .given .1
 
 -- and its fields are in range
@@ -22,8 +23,8 @@ inside : (c : tie.After-known-told2) → let g = c .before .frames .given .0 in 
 inside c = head-in _ _ (headed c)
 
 -- all its frames were met
-all-met : (c : tie.After-enum-told) → let g = c .before .before .before .before .before .before .frames .given .0 in topFrames (take (g .1 .1 .1 .0 - 0) (c .before .before .before .before .before .before .before .before .before .before .before .args .bytes .now)) (g .1 .1 .0 + 1) 128 .answer ≡ Done
-all-met c = sym (c .before .before .walk-frames .ensures) ∙ c .enum-told .given .1
+all-met : (c : tie.After-enum-told) → let g = c .before .before .before .before .before .before .frames .given .0 in topFrames (take (g .1 .1 .1 .0 - 0) (c .before .before .before .before .before .before .before .before .before .before .before .args .bytes .now)) (g .1 .1 .0 + 1) HEADER-BYTES .answer ≡ Done
+all-met c = extent-answer _ _ HEADER-BYTES ∙ ap answerOf (sym (c .before .before .walk-frames .ensures) ∙ c .enum-told .given .1)
 
 head-of-requires : tie.Need-head-of-requires
 head-of-requires c κs = search needs
@@ -47,7 +48,7 @@ add-walk-frames : tie.Need-add-walk-frames
 add-walk-frames c = omega (arith, inside (c .before .before) .few-frames)
 
 walk-frames-requires : tie.Need-walk-frames-requires
-walk-frames-requires c κs = let g = c .before .before .before .frames .given .0 in walked-long (c .before .before .before .before .before .before .before .before .args .bytes .now) (g .0) (g .1 .0) (g .1 .1 .0) (g .1 .1 .1 .0) (headed (c .before .before)) (g .1 .1 .1 .0 - 0) (g .1 .1 .0 + 1) (omega arith) (omega arith)
+walk-frames-requires c κs = search needs
 
 enum-known-e-2 : tie.Need-enum-known-e-2
 enum-known-e-2 c = search needs
@@ -76,7 +77,7 @@ returns c =
     let g = c .before .before .before .before .before .before .before .frames .given .0 in
     let size = g .1 .1 .1 .0 in
     let m = g .1 .1 .0 + 1 in
-    sym (wrote-short b (g .0) (g .1 .0) (g .1 .1 .0) size (headed (c .before .before .before .before .before .before)) (size - 0) m (omega arith) (omega arith) (all-met (c .before)) (4 * m + 8) (trailer-many (take (size - 0) b) m (all-met (c .before)))
+    sym (wrote-short b (g .0) (g .1 .0) (g .1 .1 .0) size (g .1 .1 .1 .1 .0) (headed (c .before .before .before .before .before .before)) (size - 0) m (omega arith) (omega arith) (all-met (c .before)) (4 * m + 8) (trailer-many (take (size - 0) b) m (all-met (c .before)))
     (omega (arith, inside (c .before .before .before .before .before .before) .most, c .if1 .taken)))
 
 sub-trailer-of : tie.Need-sub-trailer-of
@@ -94,7 +95,7 @@ add-trailer-of c = search needs
 trailer-of-requires : tie.Need-trailer-of-requires
 trailer-of-requires c κs =
     let g = c .before .before .before .before .before .before .before .before .before .frames .given .0 in
-    walked-in (c .before .before .before .before .before .before .before .before .before .before .before .before .before .before .args .bytes .now) (g .0) (g .1 .0) (g .1 .1 .0) (g .1 .1 .1 .0) (headed (c .before .before .before .before .before .before .before .before)) (g .1 .1 .1 .0 - 0) (g .1 .1 .0 + 1) (omega arith) (omega arith) (all-met (c .before .before .before))
+    walked-in (c .before .before .before .before .before .before .before .before .before .before .before .before .before .before .args .bytes .now) (g .0) (g .1 .0) (g .1 .1 .0) (g .1 .1 .1 .0) (g .1 .1 .1 .1 .0) (headed (c .before .before .before .before .before .before .before .before)) (g .1 .1 .1 .0 - 0) (g .1 .1 .0 + 1) (omega arith) (omega arith) (all-met (c .before .before .before))
 
 add-copy : tie.Need-add-copy
 add-copy c = search needs
@@ -135,7 +136,7 @@ same-length-3 c = search needs
 returns-3 : tie.Need-returns-3
 returns-3 c =
     let g = c .before .before .before .before .before .before .before .frames .given .0 in
-    sym (wrote-refused (c .before .before .before .before .before .before .before .before .before .before .before .before .args .bytes .now) (g .0) (g .1 .0) (g .1 .1 .0) (g .1 .1 .1 .0) (headed (c .before .before .before .before .before .before)) (g .1 .1 .1 .0 - 0) (g .1 .1 .0 + 1) (omega arith) (omega arith) _ _ (sym (c .before .before .before .walk-frames .ensures) ∙ c .before .e2 .given .1))
+    sym (wrote-refused (c .before .before .before .before .before .before .before .before .before .before .before .before .args .bytes .now) (g .0) (g .1 .0) (g .1 .1 .0) (g .1 .1 .1 .0) (g .1 .1 .1 .1 .0) (headed (c .before .before .before .before .before .before)) (g .1 .1 .1 .0 - 0) (g .1 .1 .0 + 1) (omega arith) (omega arith) _ _ (extent-answer _ _ HEADER-BYTES ∙ ap answerOf (sym (c .before .before .before .walk-frames .ensures) ∙ c .before .e2 .given .1)))
 
 same-length-4 : tie.Need-same-length-4
 same-length-4 c = search needs
@@ -146,7 +147,7 @@ returns-4 c =
     let g = c .before .before .before .before .before .before .before .before .before .before .before .before .before .before .before .before .frames .given .0 in
     let size = g .1 .1 .1 .0 in
     let m = g .1 .1 .0 + 1 in
-    wrote-back b (g .0) (g .1 .0) (g .1 .1 .0) size (headed (c .before .before .before .before .before .before .before .before .before .before .before .before .before .before .before)) (size - 0) m (omega arith) (omega arith) (all-met (c .before .before .before .before .before .before .before .before .before .before)) (4 * m + 8) (trailer-many (take (size - 0) b) m (all-met (c .before .before .before .before .before .before .before .before .before .before)))
+    wrote-back b (g .0) (g .1 .0) (g .1 .1 .0) size (g .1 .1 .1 .1 .0) (headed (c .before .before .before .before .before .before .before .before .before .before .before .before .before .before .before)) (size - 0) m (omega arith) (omega arith) (all-met (c .before .before .before .before .before .before .before .before .before .before)) (4 * m + 8) (trailer-many (take (size - 0) b) m (all-met (c .before .before .before .before .before .before .before .before .before .before)))
     (omega (arith, inside (c .before .before .before .before .before .before .before .before .before .before .before .before .before .before .before) .most, c .before .before .before .before .before .before .before .before .before .if1 .left)) (c .before .before .copy .last .0) (c .before .before .before .before .before .before .trailer-of .result) (4 * m + 8 - 0) (omega arith) (c .before .before .before .before .before .before .trailer-of .ensures) (c .before .before .copy .ensures)
 
 pub write-trailer-spec : {M : Type 1} → statement M

@@ -1,0 +1,30 @@
+-- `flic_read_header` meets its contract: it hands on what `head_of` gives, field by field.
+use mathlib.Core.Path.{ap, sym, _∙_}
+use Prim.Native.Nat.{ℕ}
+use Rattle.capi.specs.Capi.{headerFor}
+use borrow.Author.Needs.{needs}
+use Rattle.capi.proofs.flic_read_header.Statement.{statement}
+use Rattle.capi.proofs.flic_read_header.Tie as tie
+
+head-of-requires : tie.Need-head-of-requires
+head-of-requires c κs = search needs
+
+enum-known-e : tie.Need-enum-known-e
+enum-known-e c = search needs
+
+number-of-requires : tie.Need-number-of-requires
+number-of-requires c κs = search needs
+
+enum-known-width : tie.Need-enum-known-width
+enum-known-width c = search needs
+
+returns : tie.Need-returns
+returns c = ap (λ (n : ℕ). record { number = n; place = 0; width = 0; height = 0; frames = 0; size = 0; speed = 0 }) (c .number-of .ensures) ∙ ap headerFor (sym (sym (c .before .before .before .before .head-of .ensures) ∙ c .before .before .e .given .1))
+
+returns-2 : tie.Need-returns-2
+returns-2 c = ap headerFor (sym (sym (c .before .before .before .head-of .ensures) ∙ c .before .width .given .1))
+
+pub flic-read-header-spec : {M : Type 1} → statement M
+flic-read-header-spec =
+    tie.close
+    (tie.spec head-of-requires enum-known-e number-of-requires enum-known-width returns returns-2)
