@@ -121,6 +121,47 @@ flic_written flic_write_trailer(uint8_t *bytes, size_t bytes_len);
  * of 0 behind it. */
 flic_written flic_list(const uint8_t *bytes, size_t bytes_len, uint8_t *out, size_t out_len);
 
+/* What the file header says, so that a caller needs no parser of its own. number 0: accepted, with the picture's width
+ * and height, how many frames there are (the ring not counted), the reel's size in bytes, and for how many milliseconds
+ * a frame shows. A refusal has place 0 and all fields 0. */
+typedef struct {
+    uint32_t number;
+    uint64_t place, width, height, frames, size;
+    uint32_t speed;
+} flic_header;
+
+/* Reads the file header: refused as flic_check_reel refuses it, in the same order (4, 5, 6, 4, 2, 14). The bytes are
+ * the file, or its front at least as far as the size reaches: a size past the bytes is 4. */
+flic_header flic_read_header(const uint8_t *bytes, size_t bytes_len);
+
+/* number 0: done, with where the frame chunk begins and ends. A refusal has both 0, and as its place the offset of the
+ * chunk at fault or where the next one should begin. */
+typedef struct {
+    uint32_t number;
+    uint64_t place, from, end;
+} flic_span;
+
+/* Finds the next frame chunk from the offset at on, where a chunk begins, and steps over other chunks. The bytes are
+ * the reel up to its size. Refused 15 where fewer than 6 bytes are left, also if at is past the bytes; 4 or 6 for a
+ * chunk header that isn't whole or a size that doesn't fit. No frame is opened: flic_read_frame says if it is right.
+ *
+ * All frames of a reel and its ring, one after the other, from blank (picture and palette all 0):
+ *
+ *     flic_header h = flic_read_header(file, file_len);
+ *     uint64_t at = 128;
+ *     for (uint64_t i = 0; h.number == 0 && i <= h.frames; i++) {
+ *         flic_span frame = flic_next_frame(file, h.size, at);
+ *         if (frame.number != 0) break;
+ *         flic_answer a = flic_read_frame(file + frame.from, frame.end - frame.from, h.width, h.height,
+ *                                         picture, h.width * h.height, palette, 768);
+ *         if (a.number != 0) break;
+ *         show(picture, palette, h.speed);
+ *         at = frame.end;
+ *     }
+ *
+ * Further laps begin with frame 2, since the ring, the last of them, shows frame 1 again. */
+flic_span flic_next_frame(const uint8_t *bytes, size_t bytes_len, uint64_t at);
+
 #ifdef __cplusplus
 }
 #endif

@@ -2,6 +2,7 @@
 
 use crate::refusal::{Refusal, Refused, Result};
 use std::borrow::Cow;
+use std::ops::Range;
 
 /// No frame that is written has more bytes.
 pub const FRAME_MOST: usize = 65_310;
@@ -37,6 +38,26 @@ struct ReelAnswer {
     number: u32,
     place: u64,
     reel: Record,
+}
+
+/// What a file header says.
+#[repr(C)]
+pub struct Header {
+    number: u32,
+    place: u64,
+    pub width: u64,
+    pub height: u64,
+    pub frames: u64,
+    pub size: u64,
+    pub speed: u32,
+}
+
+#[repr(C)]
+struct Span {
+    number: u32,
+    place: u64,
+    from: u64,
+    end: u64,
 }
 
 impl Record {
@@ -154,6 +175,10 @@ extern "C" {
     fn flic_write_trailer(bytes: *mut u8, bytes_len: usize) -> Written;
 
     fn flic_list(bytes: *const u8, bytes_len: usize, out: *mut u8, out_len: usize) -> Written;
+
+    fn flic_read_header(bytes: *const u8, bytes_len: usize) -> Header;
+
+    fn flic_next_frame(bytes: *const u8, bytes_len: usize, at: u64) -> Span;
 }
 
 fn result(number: u32, place: u64) -> Result<()> {
@@ -327,6 +352,16 @@ pub fn write_trailer(bytes: &mut [u8]) -> Result<usize> {
 
 pub fn list(bytes: &[u8], out: &mut [u8]) -> Result<usize> {
     length(unsafe { flic_list(bytes.as_ptr(), bytes.len(), out.as_mut_ptr(), out.len()) })
+}
+
+pub fn read_header(bytes: &[u8]) -> Result<Header> {
+    let header = unsafe { flic_read_header(bytes.as_ptr(), bytes.len()) };
+    result(header.number, header.place).map(|()| header)
+}
+
+pub fn next_frame(bytes: &[u8], at: usize) -> Result<Range<usize>> {
+    let span = unsafe { flic_next_frame(bytes.as_ptr(), bytes.len(), at as u64) };
+    result(span.number, span.place).map(|()| span.from as usize..span.end as usize)
 }
 
 #[cfg(test)]

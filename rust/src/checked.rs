@@ -1,27 +1,20 @@
 //! Whole reels: checked, and then played lap after lap.
 
-use crate::boundary::{self, PairMut};
-use crate::chunk::{sub_chunks, Chunk, Chunks, FRAME};
+use crate::boundary;
+use crate::chunk::{frame_chunks, Chunk};
 use crate::frame::read_frame;
-use crate::header::{Header, FILE_HEADER};
-use crate::refusal::{Refusal, Refused, Result};
+use crate::header::Header;
+use crate::refusal::Result;
 use crate::state::{Size, State};
 
 /// Checks a whole reel: plays every frame and the ring, and refuses a ring that doesn't lead back to frame 1.
 /// What stands behind the reel is looked at by [`check_trailer`](crate::check_trailer).
 pub fn check_reel(bytes: &[u8]) -> Result<()> {
-    let size = Header::of(bytes).and_then(|header| Size::new(header.width, header.height).ok());
-    match size {
-        Some(size) => {
-            let (mut first, mut second) = (State::blank(size), State::blank(size));
-            boundary::check_reel(bytes, first.lent_mut(), second.lent_mut())
-        }
-        // The size is at fault, or something before it, so that no working pair is needed.
-        None => {
-            let none = || PairMut { picture: &mut [], palette: &mut [] };
-            boundary::check_reel(bytes, none(), none())
-        }
-    }
+    // What is refused here, the check would refuse the same way: it reads the header first.
+    let header = Header::read(bytes)?;
+    let size = Size::new(header.width, header.height)?;
+    let (mut first, mut second) = (State::blank(size), State::blank(size));
+    boundary::check_reel(bytes, first.lent_mut(), second.lent_mut())
 }
 
 /// A reel that the check accepted, so that every lap shows the same.
@@ -39,8 +32,7 @@ pub fn check_reel(bytes: &[u8]) -> Result<()> {
 /// assert_eq!((reel.header().frames, reel.header().speed), (2, 200));
 ///
 /// for frame in reel.frames() {
-///     let kinds: Vec<u16> = reel.sub_chunks(frame.chunk).map(|chunk| chunk.kind).collect();
-///     println!("frame {} at offset {} holds {kinds:?}", frame.number, frame.chunk.offset);
+///     println!("frame {} at offset {} has {} bytes", frame.number, frame.chunk.offset, frame.chunk.size);
 /// }
 ///
 /// let order: Vec<(usize, usize)> = reel.laps().take(5).map(|frame| (frame.lap, frame.number)).collect();
@@ -52,7 +44,6 @@ pub struct CheckedReel<'a> {
     bytes: &'a [u8],
     header: Header,
     size: Size,
-    chunks: Vec<Chunk>,
     frames: Vec<Chunk>,
 }
 
@@ -60,20 +51,10 @@ impl<'a> CheckedReel<'a> {
     /// Checks the reel as [`check_reel`] does.
     pub fn new(bytes: &'a [u8]) -> Result<CheckedReel<'a>> {
         check_reel(bytes)?;
-        let header = Header::of(bytes).ok_or(Refused { refusal: Refusal::Cut, place: 0 })?;
+        let header = Header::read(bytes)?;
         let size = Size::new(header.width, header.height)?;
-        let wanted = usize::from(header.frames) + 1;
-        let (mut chunks, mut frames) = (Vec::new(), Vec::with_capacity(wanted));
-        for chunk in Chunks::new(bytes, FILE_HEADER, header.size as usize) {
-            chunks.push(chunk);
-            if chunk.kind == FRAME {
-                frames.push(chunk);
-            }
-            if frames.len() == wanted {
-                break;
-            }
-        }
-        Ok(CheckedReel { bytes, header, size, chunks, frames })
+        let frames = frame_chunks(bytes, &header).collect();
+        Ok(CheckedReel { bytes, header, size, frames })
     }
 
     pub fn header(&self) -> &Header {
@@ -84,19 +65,9 @@ impl<'a> CheckedReel<'a> {
         self.size
     }
 
-    /// The top-level chunks up to the ring: frames, and others that are stepped over.
-    pub fn chunks(&self) -> &[Chunk] {
-        &self.chunks
-    }
-
     /// The frame chunks, the last being the ring.
     pub fn frame_chunks(&self) -> &[Chunk] {
         &self.frames
-    }
-
-    /// What a frame chunk of this reel holds.
-    pub fn sub_chunks(&self, frame: Chunk) -> impl Iterator<Item = Chunk> + 'a {
-        sub_chunks(self.bytes, frame)
     }
 
     /// One lap: every frame, then the ring.
@@ -149,6 +120,7 @@ impl Iterator for Laps<'_> {
 mod tests {
     use super::*;
     use crate::reel::Reel;
+    use crate::refusal::{Refusal, Refused};
     use crate::write_frame;
 
     fn states(count: u8) -> Vec<State> {
@@ -185,29 +157,25 @@ mod tests {
     }
 
     #[test]
-    fn chunks_are_found_where_they_lie() -> Result<()> {
+    fn frames_are_found_where_they_lie() -> Result<()> {
         let bytes = built(&states(2));
         let reel = CheckedReel::new(&bytes)?;
         let frames = reel.frame_chunks();
-        assert_eq!((frames.len(), frames, frames[0].offset), (3, reel.chunks(), 128));
+        assert_eq!((frames.len(), frames[0].offset), (3, 128));
         assert_eq!((frames[1].offset, frames[2].offset), (frames[0].end(), frames[1].end()));
         assert_eq!(frames[2].end(), bytes.len());
-        for frame in frames {
-            let sum: usize = reel.sub_chunks(*frame).map(|chunk| chunk.size).sum();
-            assert_eq!(16 + sum, frame.size);
-        }
         Ok(())
     }
 
     #[test]
-    fn other_chunks_are_stepped_over_and_kept_in_the_list() -> Result<()> {
+    fn other_chunks_are_stepped_over() -> Result<()> {
         let mut bytes = built(&states(1));
+        let frames = CheckedReel::new(&bytes)?.frame_chunks().to_vec();
         bytes.splice(128..128, [8, 0, 0, 0, 0, 0xF1, 5, 5]);
         let size = bytes.len() as u32;
         bytes[..4].copy_from_slice(&size.to_le_bytes());
-        let reel = CheckedReel::new(&bytes)?;
-        assert_eq!(reel.chunks()[0], Chunk { offset: 128, kind: 0xF100, size: 8 });
-        assert_eq!((reel.chunks().len(), reel.frame_chunks().len()), (3, 2));
+        let moved = frames.iter().map(|frame| Chunk { offset: frame.offset + 8, ..*frame });
+        assert_eq!(CheckedReel::new(&bytes)?.frame_chunks(), moved.collect::<Vec<Chunk>>());
         Ok(())
     }
 

@@ -2,7 +2,8 @@
 //!
 //! A [`Reel`] takes pictures and gives a file; a [`CheckedReel`] is a file that was checked, and plays it. One frame is
 //! read, written and rewritten by [`read_frame`], [`write_frame`] and [`rewrite_frame`]. What can't be done is
-//! [`Refused`], with its reason and place.
+//! [`Refused`], with its reason and place. No byte of a file is interpreted here: what a header says and where frames
+//! lie, [`Header::read`] and [`next_frame`] ask the codec.
 //!
 //! The codec is `libcapi.a`, which `rt staticlib capi` makes; the environment's `FLIC_LIB_DIR` names the directory that
 //! holds it, if it isn't `target/staticlib` of the repository.
@@ -44,7 +45,7 @@ mod state;
 mod trailer;
 
 pub use checked::{check_reel, CheckedReel, Frame, Laps};
-pub use chunk::{Chunk, FRAME, FRAME_HEADER};
+pub use chunk::{next_frame, Chunk};
 pub use frame::{read_frame, rewrite_frame, write_frame, Rewritten};
 pub use header::{Header, FILE_HEADER};
 pub use listing::{list, LISTED_MOST};

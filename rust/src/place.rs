@@ -1,6 +1,6 @@
 //! Where in a reel a refusal lies.
 
-use crate::chunk::{Chunk, Chunks, FRAME};
+use crate::chunk::{frame_chunks, Chunk};
 use crate::frame::read_frame;
 use crate::header::{Header, FILE_HEADER};
 use crate::refusal::{Refusal, Refused};
@@ -56,19 +56,15 @@ pub fn part_of(bytes: &[u8], refused: Refused) -> Part {
         _ if refused.place < FILE_HEADER as u64 => return Part::Header,
         _ => {}
     }
-    let Some(header) = Header::of(bytes) else { return Part::Header };
+    let Ok(header) = Header::read(bytes) else { return Part::Header };
     let Ok(size) = Size::new(header.width, header.height) else { return Part::Header };
     let of = usize::from(header.frames);
-    let end = bytes.len().min(header.size as usize);
     let mut state = State::blank(size);
     let mut is_at_fault = |frame: &Chunk| {
         let fault = read_frame(&bytes[frame.offset..frame.end()], &mut state).err();
         fault.is_some_and(|fault| frame.offset as u64 + fault.place == refused.place)
     };
-    let before = Chunks::new(bytes, FILE_HEADER, end)
-        .filter(|chunk| chunk.kind == FRAME)
-        .take_while(|frame| !is_at_fault(frame))
-        .count();
+    let before = frame_chunks(bytes, &header).take_while(|frame| !is_at_fault(frame)).count();
     match before + 1 {
         number if number > of => Part::Ring,
         number => Part::Frame { number, of },

@@ -35,8 +35,8 @@ pub fn check_trailer(bytes: &[u8]) -> Result<()> {
 pub fn write_trailer(file: &mut Vec<u8>) -> Result<()> {
     let before = file.len();
     // A refusal 3 comes last: the file is then a reel, and lacks only the room behind it.
-    let written = boundary::write_trailer(file).or_else(|refused| match (refused.refusal, Header::of(file)) {
-        (Refusal::NoRoom, Some(header)) => {
+    let written = boundary::write_trailer(file).or_else(|refused| match (refused.refusal, Header::read(file)) {
+        (Refusal::NoRoom, Ok(header)) => {
             let entries = usize::from(header.frames) + 1;
             file.resize(header.size as usize + ENTRY * entries + TRAILER, 0);
             boundary::write_trailer(file)

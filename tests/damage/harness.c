@@ -175,20 +175,25 @@ static void rewrite_frame(const input *in)
 static void play(const input *in)
 {
     static uint8_t picture[PIXELS], palette[PALETTE], pictures[RING_STATES][PIXELS], palettes[RING_STATES][PALETTE];
-    size_t frames = word(in->bytes + 6), pixels = pixels_of(in);
-    size_t starts[RING_STATES + 1], count = 0, place = HEADER;
+    flic_header header = flic_read_header(in->bytes, in->length);
+    must(header.number == 0 && header.width == in->width && header.height == in->height,
+         "the header of an accepted reel is refused, or has another size");
+    size_t frames = header.frames, pixels = pixels_of(in);
+    flic_span spans[RING_STATES + 1];
     if (frames >= RING_STATES)
         return;
-    for (; count <= frames; place += size_of(in->bytes + place))
-        if (word(in->bytes + place + 4) == 0xF1FA)
-            starts[count++] = place;
+    for (size_t frame = 0; frame <= frames; frame++) {
+        spans[frame] = flic_next_frame(in->bytes, header.size, frame ? spans[frame - 1].end : HEADER);
+        must(spans[frame].number == 0, "a frame of an accepted reel isn't found");
+    }
     memset(picture, 0, sizeof picture);
     memset(palette, 0, sizeof palette);
     for (unsigned lap = 0; lap < 3; lap++)
         for (size_t frame = lap ? 1 : 0; frame <= frames; frame++) {
-            const uint8_t *bytes = in->bytes + starts[frame];
+            const uint8_t *bytes = in->bytes + spans[frame].from;
+            size_t length = spans[frame].end - spans[frame].from;
             flic_answer answer =
-                flic_read_frame(bytes, size_of(bytes), in->width, in->height, picture, pixels, palette, PALETTE);
+                flic_read_frame(bytes, length, in->width, in->height, picture, pixels, palette, PALETTE);
             must(answer.number == 0, "a frame of an accepted reel is refused");
             uint8_t *its_picture = pictures[frame % frames], *its_palette = palettes[frame % frames];
             if (lap || frame == frames)
@@ -326,10 +331,47 @@ static void list(const input *in)
     must(written.number || (written.length && out.bytes[written.length - 1] == '\n'), "a listing doesn't end its line");
 }
 
+static void read_header(const input *in)
+{
+    lent bytes = lend_next(in->bytes, in->length);
+    flic_header header = flic_read_header(bytes.bytes, bytes.length);
+    meet(10, header.number, header.size);
+    must(unchanged(&bytes), "a reading of a header changed the file");
+    must(header.place == 0, "a header is refused elsewhere than at place 0");
+    if (header.number)
+        must(!(header.width | header.height | header.frames | header.size | header.speed),
+             "a refused header tells something");
+    else
+        must(header.size >= HEADER && header.size <= bytes.length && header.width >= 1 && header.width <= 320 &&
+                 header.height >= 1 && header.height <= 200 && header.frames >= 1 && header.frames <= 4000,
+             "a header tells something out of range");
+}
+
+static void next_frame(const input *in)
+{
+    lent bytes = lend_next(in->bytes, in->length);
+    uint64_t at = word(in->choices + END);
+    if (at == 65535)
+        at = HEADER;
+    flic_span span = flic_next_frame(bytes.bytes, bytes.length, at);
+    meet(11, span.number, span.from);
+    must(unchanged(&bytes), "a step changed the reel");
+    if (span.number) {
+        must(span.number == 4 || span.number == 6 || span.number == 15, "an answer out of range");
+        must(span.place >= at && !span.from && !span.end, "a refused step gives a span, or a place before it began");
+        return;
+    }
+    must(span.place == 0 && at <= span.from && span.from + 16 <= span.end && span.end <= bytes.length,
+         "a step gives a span out of range");
+    must(word(bytes.bytes + span.from + 4) == 0xF1FA && size_of(bytes.bytes + span.from) == span.end - span.from,
+         "a step gives a span that isn't a frame");
+}
+
 int LLVMFuzzerTestOneInput(const uint8_t *data, size_t size)
 {
-    static void (*const entries[])(const input *) = {read_frame, write_frame, rewrite_frame, check_reel,    open_reel,
-                                                     add_frame,  close_reel,  check_trailer, write_trailer, list};
+    static void (*const entries[])(const input *) = {read_frame,    write_frame,   rewrite_frame, check_reel,
+                                                     open_reel,     add_frame,     close_reel,    check_trailer,
+                                                     write_trailer, list,          read_header,   next_frame};
     if (size < CHOICES || size - CHOICES > MOST)
         return 0;
     input in = {data, data + CHOICES, size - CHOICES, data[WIDTH], data[HEIGHT], data + CHOICES, size - CHOICES};
@@ -342,7 +384,7 @@ int LLVMFuzzerTestOneInput(const uint8_t *data, size_t size)
     }
     sides = data[SIDES];
     lend_anew();
-    entries[data[ENTRY] % 10](&in);
+    entries[data[ENTRY] % (sizeof entries / sizeof *entries)](&in);
     must(neighbours_hold(), "a byte beside a lent slice was written");
     return 0;
 }

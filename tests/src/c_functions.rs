@@ -4,6 +4,7 @@
 use crate::boundary::{FlicAnswer, FlicWritten};
 use crate::model::reel::Reel;
 use crate::reels::boundary::FlicReelAnswer;
+use crate::trailers::boundary::{FlicHeader, FlicSpan};
 
 extern "C" {
     pub fn flic_read_frame(
@@ -97,4 +98,8 @@ extern "C" {
     pub fn flic_write_trailer(bytes: *mut u8, bytes_length: usize) -> FlicWritten;
 
     pub fn flic_list(bytes: *const u8, bytes_length: usize, out: *mut u8, out_length: usize) -> FlicWritten;
+
+    pub fn flic_read_header(bytes: *const u8, bytes_length: usize) -> FlicHeader;
+
+    pub fn flic_next_frame(bytes: *const u8, bytes_length: usize, at: u64) -> FlicSpan;
 }

@@ -4,7 +4,7 @@
 use flic_tests::boundary::{FlicAnswer, FlicWritten, ReadCall, RewriteCall, WriteCall};
 use flic_tests::c_functions::*;
 use flic_tests::reels::boundary::{AddCall, CheckCall, CloseCall, FlicReelAnswer, OpenCall};
-use flic_tests::trailers::boundary::{ListCall, TrailerCall};
+use flic_tests::trailers::boundary::{FlicHeader, FlicSpan, HeaderCall, ListCall, StepCall, TrailerCall};
 
 /// Reads one frame.
 pub fn reads(call: &mut ReadCall) -> FlicAnswer {
@@ -155,4 +155,16 @@ pub fn lists(call: &mut ListCall) -> FlicWritten {
     let (bytes, out) = (&mut call.bytes, &mut call.out);
     // SAFETY: each pointer goes with its own slice's length, and the slices don't overlap.
     unsafe { flic_list(bytes.pointer(), bytes.length(), out.pointer(), out.length()) }
+}
+
+/// Reads a file header.
+pub fn reads_header(call: &mut HeaderCall) -> FlicHeader {
+    // SAFETY: the pointer goes with its slice's length.
+    unsafe { flic_read_header(call.bytes.pointer(), call.bytes.length()) }
+}
+
+/// Steps to the next frame.
+pub fn steps(call: &mut StepCall) -> FlicSpan {
+    // SAFETY: the pointer goes with its slice's length.
+    unsafe { flic_next_frame(call.bytes.pointer(), call.bytes.length(), call.at) }
 }

@@ -12,21 +12,22 @@ use lib.Seq.{length-take-le}
 use Rattle.words.specs.Words.{chunk, same}
 use Rattle.words.specs.Writes.{put}
 use Rattle.words.proofs.Laws.{put-then, length-chunk}
+use Rattle.words.proofs.Tests.{by-test}
 use Rattle.answer.specs.Answer.{maxWidth, maxHeight, sizeOk, state}
 use Rattle.answer.specs.Format.{FLI-COLOR256, FLI-SS2, FLI-COPY}
 use Rattle.answer.proofs.Laws.{size-in}
 use Rattle.answer.specs.declared.Refusal.the-variants.{ShortSlice, BadSize, NoRoom}
 use Rattle.answer.specs.declared.Written.the-variants.{Done, Refused}
 use Rattle.frame.specs.Reading.{front, enough}
-use Rattle.colours.specs.Colours.{changes, colourBody}
-use Rattle.colours.proofs.ReadsBack.{colour-short}
-use Rattle.deltas.specs.Delta.{lineCount, deltaBody}
+use Rattle.house_colour.specs.Colours.{colourBody}
+use Rattle.house_colour.proofs.ReadsBack.{colour-short}
+use Rattle.house_ss2.specs.Delta.{deltaBody}
 use Rattle.fulls.specs.Full.{fullChunk, fullKind}
 use Rattle.frame.proofs.Laws.{enough-in}
 use Rattle.fulls.proofs.Laws.{kind-copy}
 use Rattle.fulls.proofs.FullLeast.{full-shortest}
-use Rattle.house.specs.House.{colourChunk, deltaChunk, pictureChunk, changed, houseChunks, framed, houseFrame}
-use Rattle.house.specs.Plans.{Palettes, Pictures, nothing, planned, colourPlan, picturePlan, ColourPlan, PicturePlan, headerBytes}
+use Rattle.house.specs.House.{colourChunk, deltaChunk, pictureChunk, changed, houseChunks, framed, houseFrame, colourChunkMost, pictureMost, frameMost}
+use Rattle.house.specs.Plans.{Palettes, Pictures, nothing, planned, colourPlan, picturePlan, headerBytes}
 use Rattle.house.specs.Writing.{Output, output, fitted, writeFrame}
 use Rattle.house.specs.declared.Plan.{Plan}
 
@@ -55,10 +56,10 @@ pub record Counted (subs : List (List ℕ)) (m : ℕ) (r : Plan) : Type 0 where
   pub one : r .chunks ≤ 1
   pub short : r .size ≤ m
 
-plan-counted : (t : Bool) (c : List ℕ) (m k n : ℕ) → length c ≤ m → Counted (cond t [] (c ∷ [])) m (cond t nothing (planned k n c))
+plan-counted : (t : Bool) (c : List ℕ) (m k : ℕ) → length c ≤ m → Counted (cond t [] (c ∷ [])) m (cond t nothing (planned k c))
 unfolding flatten
-plan-counted true c m k n l = record { chunks = refl; size = refl; one = omega arith; short = omega arith }
-plan-counted false c m k n l = record { chunks = refl; size = sym (ap length (flatten-one c)); one = omega arith; short = l }
+plan-counted true c m k l = record { chunks = refl; size = refl; one = omega arith; short = omega arith }
+plan-counted false c m k l = record { chunks = refl; size = sym (ap length (flatten-one c)); one = omega arith; short = l }
 
 plan-none : (t : Bool) (c : List ℕ) (r x : Plan) → r ≡ cond t nothing x → x .chunks ≡ 1 → r .chunks ≡ 0 → flatten (cond t [] (c ∷ [])) ≡ []
 unfolding flatten
@@ -73,7 +74,6 @@ plan-some false c r x is e = (is, flatten-one c)
 
 -- r plans a colour chunk
 pub record Coloured (p q : List ℕ) (r : Plan) : Type 0 where
-  pub count : r .count ≡ length (changes p q)
   pub size : r .size ≡ 6 + length (colourBody p q)
   pub bytes : flatten (changed p q (colourChunk p q)) ≡ chunk FLI-COLOR256 (colourBody p q)
 
@@ -82,42 +82,37 @@ module _ (p q : List ℕ) where
   unfolding colourChunk
   colour-length = length-chunk FLI-COLOR256 (colourBody p q)
 
-  pub colour-same : same p q ≡ true → ColourPlan p q nothing
+  pub colour-same : same p q ≡ true → nothing ≡ colourPlan p q
   unfolding colourPlan
-  colour-same e = record { is = rw e; few = omega arith }
+  colour-same e = rw e
 
-  pub colour-other : same p q ≡ false → (n s : ℕ) → n ≡ length (changes p q) → n ≤ 256 → s ≡ length (colourBody p q)
-      → ColourPlan p q (record { chunks = 1; kind = FLI-COLOR256; count = n; size = 6 + s })
+  pub colour-other : same p q ≡ false → (s : ℕ) → s ≡ length (colourBody p q) → record { chunks = 1; kind = FLI-COLOR256; size = 6 + s } ≡ colourPlan p q
   unfolding colourPlan
-  colour-other e n s k l z = record {
-    is = rw e (ap₂ (λ (x y : ℕ). record { chunks = 1; kind = FLI-COLOR256; count = x; size = y }) k (omega (arith, colour-length)));
-    few = l;
-  }
+  colour-other e s z = rw e (ap (λ (y : ℕ). record { chunks = 1; kind = FLI-COLOR256; size = y }) (omega (arith, colour-length)))
 
-  colour-measured : Palettes p q → Counted (changed p q (colourChunk p q)) 1288 (colourPlan p q)
+  colour-measured : Palettes p q → Counted (changed p q (colourChunk p q)) colourChunkMost (colourPlan p q)
   unfolding colourPlan
   colour-measured s =
-      plan-counted (same p q) (colourChunk p q) 1288 FLI-COLOR256 (length (changes p q)) (omega (arith, colour-length, colour-short p q (s .previous) (s .next)))
+      plan-counted (same p q) (colourChunk p q) colourChunkMost FLI-COLOR256 (omega (arith, colour-length, colour-short p q (s .previous) (s .next)))
 
-module _ {p q : List ℕ} {r : Plan} (f : ColourPlan p q r) where
-  pub colour-counted : Palettes p q → Counted (changed p q (colourChunk p q)) 1288 r
-  colour-counted s = rw (f .is) (colour-measured p q s)
+module _ (p q : List ℕ) {r : Plan} (f : r ≡ colourPlan p q) where
+  pub colour-counted : Palettes p q → Counted (changed p q (colourChunk p q)) colourChunkMost r
+  colour-counted s = rw f (colour-measured p q s)
 
   pub colour-none : r .chunks ≡ 0 → flatten (changed p q (colourChunk p q)) ≡ []
   unfolding colourPlan
-  colour-none e = plan-none (same p q) (colourChunk p q) r (planned FLI-COLOR256 (length (changes p q)) (colourChunk p q)) (f .is) refl e
+  colour-none e = plan-none (same p q) (colourChunk p q) r (planned FLI-COLOR256 (colourChunk p q)) f refl e
 
   pub coloured : (r .chunks ≡ 0 → ⊥) → Coloured p q r
   unfolding colourPlan colourChunk
   coloured e =
-      let s = plan-some (same p q) (colourChunk p q) r (planned FLI-COLOR256 (length (changes p q)) (colourChunk p q)) (f .is) e in
-      record { count = ap (λ (y : Plan). y .count) (s .0); size = ap (λ (y : Plan). y .size) (s .0) ∙ colour-length p q; bytes = s .1 }
+      let s = plan-some (same p q) (colourChunk p q) r (planned FLI-COLOR256 (colourChunk p q)) f e in
+      record { size = ap (λ (y : Plan). y .size) (s .0) ∙ colour-length p q; bytes = s .1 }
 
 -- the picture chunk
 
 -- r plans a delta
 pub record Delta (w h : ℕ) (p q : List ℕ) (r : Plan) : Type 0 where
-  pub count : r .count ≡ lineCount w h p q
   pub size : r .size ≡ 6 + length (deltaBody w h p q)
   pub bytes : flatten (changed p q (pictureChunk w h p q)) ≡ chunk FLI-SS2 (deltaBody w h p q)
 
@@ -138,33 +133,29 @@ module _ (w h : ℕ) (p q : List ℕ) where
 
   -- the plan where there is a change; d: whether the delta is used
   abbrev used : Bool → Plan
-  used d = cond d (planned FLI-SS2 (lineCount w h p q) (deltaChunk w h p q)) (planned (fullKind w h q) 0 (fullChunk w h q))
+  used d = cond d (planned FLI-SS2 (deltaChunk w h p q)) (planned (fullKind w h q) (fullChunk w h q))
 
   -- whether the delta is strictly shorter than the full chunk
   abbrev shorter : Bool
   shorter = ltb (length (deltaChunk w h p q)) (length (fullChunk w h q))
 
-  pub picture-same : same p q ≡ true → PicturePlan w h p q nothing
+  pub picture-same : same p q ≡ true → nothing ≡ picturePlan w h p q
   unfolding picturePlan
-  picture-same e = record { is = rw e; few = omega arith }
+  picture-same e = rw e
 
-  pub picture-delta : same p q ≡ false → (n s f : ℕ) → n ≡ lineCount w h p q → n ≤ h → s ≡ length (deltaBody w h p q) → f ≡ length (fullChunk w h q) → 6 + s < f
-      → PicturePlan w h p q (record { chunks = 1; kind = FLI-SS2; count = n; size = 6 + s })
+  pub picture-delta : same p q ≡ false → (s f : ℕ) → s ≡ length (deltaBody w h p q) → f ≡ length (fullChunk w h q) → 6 + s < f
+      → record { chunks = 1; kind = FLI-SS2; size = 6 + s } ≡ picturePlan w h p q
   unfolding picturePlan
-  picture-delta e n s f k l z y x = record {
-    is = rw (e, lt-ltb (length (deltaChunk w h p q)) (length (fullChunk w h q)) (omega (arith, delta-length)))
-        (ap₂ (λ (a b : ℕ). record { chunks = 1; kind = FLI-SS2; count = a; size = b }) k (omega (arith, delta-length)));
-    few = l;
-  }
+  picture-delta e s f z y x =
+      rw (e, lt-ltb (length (deltaChunk w h p q)) (length (fullChunk w h q)) (omega (arith, delta-length)))
+      (ap (λ (b : ℕ). record { chunks = 1; kind = FLI-SS2; size = b }) (omega (arith, delta-length)))
 
   pub picture-full : same p q ≡ false → (k s f : ℕ) → k ≡ fullKind w h q → s ≡ length (deltaBody w h p q) → f ≡ length (fullChunk w h q) → f ≤ 6 + s
-      → PicturePlan w h p q (record { chunks = 1; kind = k; count = 0; size = f })
+      → record { chunks = 1; kind = k; size = f } ≡ picturePlan w h p q
   unfolding picturePlan
-  picture-full e k s f z y x l = record {
-    is = rw (e, le-ltb (length (deltaChunk w h p q)) (length (fullChunk w h q)) (omega (arith, delta-length)))
-        (ap₂ (λ (a b : ℕ). record { chunks = 1; kind = a; count = 0; size = b }) z x);
-    few = omega arith;
-  }
+  picture-full e k s f z y x l =
+      rw (e, le-ltb (length (deltaChunk w h p q)) (length (fullChunk w h q)) (omega (arith, delta-length)))
+      (ap₂ (λ (a b : ℕ). record { chunks = 1; kind = a; size = b }) z x)
 
   pub full-short : length (fullChunk w h q) ≤ 6 + length q
   full-short = omega (arith, full-shortest w h q .1, length-chunk FLI-COPY q)
@@ -172,56 +163,46 @@ module _ (w h : ℕ) (p q : List ℕ) where
   -- the picture chunk is no longer than the full one
   pub picture-short : length (pictureChunk w h p q) ≤ length (fullChunk w h q)
   unfolding pictureChunk
-  picture-short = by-test shorter refl
-    where
-      by-test : (d : Bool) → shorter ≡ d → length (cond d (deltaChunk w h p q) (fullChunk w h q)) ≤ length (fullChunk w h q)
-      by-test true e = omega (arith, ltb-true (length (deltaChunk w h p q)) (length (fullChunk w h q)) e)
-      by-test false e = omega arith
+  picture-short =
+      by-test (λ d. length (cond d (deltaChunk w h p q) (fullChunk w h q)) ≤ length (fullChunk w h q)) shorter
+      (λ e. omega (arith, ltb-true (length (deltaChunk w h p q)) (length (fullChunk w h q)) e)) (λ e. omega arith)
 
-  picture-measured : Pictures w h p q → Counted (changed p q (pictureChunk w h p q)) 64006 (picturePlan w h p q)
+  picture-measured : Pictures w h p q → Counted (changed p q (pictureChunk w h p q)) pictureMost (picturePlan w h p q)
   unfolding picturePlan pictureChunk
-  picture-measured s = by-test shorter refl
-    where
-      few : w * h ≤ maxWidth * maxHeight
-      few = mul-le-mul (s .wide) (s .high)
+  picture-measured s =
+      let few : w * h ≤ maxWidth * maxHeight = mul-le-mul (s .wide) (s .high) in
+      by-test (λ d. Counted (changed p q (cond d (deltaChunk w h p q) (fullChunk w h q))) pictureMost (cond (same p q) nothing (used d))) shorter
+      (λ e. plan-counted (same p q) (deltaChunk w h p q) pictureMost FLI-SS2
+      (omega (arith, few, full-short, s .next, ltb-true (length (deltaChunk w h p q)) (length (fullChunk w h q)) e)))
+      (λ e. plan-counted (same p q) (fullChunk w h q) pictureMost (fullKind w h q) (omega (arith, few, full-short, s .next)))
 
-      by-test : (d : Bool) → shorter ≡ d → Counted (changed p q (cond d (deltaChunk w h p q) (fullChunk w h q))) 64006 (cond (same p q) nothing (used d))
-      by-test true e = plan-counted (same p q) (deltaChunk w h p q) 64006 FLI-SS2 (lineCount w h p q)
-          (omega (arith, few, full-short, s .next, ltb-true (length (deltaChunk w h p q)) (length (fullChunk w h q)) e))
-      by-test false e = plan-counted (same p q) (fullChunk w h q) 64006 (fullKind w h q) 0 (omega (arith, few, full-short, s .next))
-
-module _ {w h : ℕ} {p q : List ℕ} {r : Plan} (f : PicturePlan w h p q r) where
-  pub picture-counted : Pictures w h p q → Counted (changed p q (pictureChunk w h p q)) 64006 r
-  picture-counted s = rw (f .is) (picture-measured w h p q s)
+module _ (w h : ℕ) (p q : List ℕ) {r : Plan} (f : r ≡ picturePlan w h p q) where
+  pub picture-counted : Pictures w h p q → Counted (changed p q (pictureChunk w h p q)) pictureMost r
+  picture-counted s = rw f (picture-measured w h p q s)
 
   pub picture-none : r .chunks ≡ 0 → flatten (changed p q (pictureChunk w h p q)) ≡ []
   unfolding picturePlan
-  picture-none e = plan-none (same p q) (pictureChunk w h p q) r (used w h p q (shorter w h p q)) (f .is) (by-test (shorter w h p q)) e
-    where
-      by-test : (d : Bool) → used w h p q d .chunks ≡ 1
-      by-test true = refl
-      by-test false = refl
+  picture-none e = plan-none (same p q) (pictureChunk w h p q) r (used w h p q (shorter w h p q)) f
+      (by-test (λ d. used w h p q d .chunks ≡ 1) (shorter w h p q) (λ _. refl) (λ _. refl)) e
 
   module _ (e : r .chunks ≡ 0 → ⊥) where
     some : (r ≡ used w h p q (shorter w h p q)) × (flatten (changed p q (pictureChunk w h p q)) ≡ pictureChunk w h p q)
     unfolding picturePlan
-    some = plan-some (same p q) (pictureChunk w h p q) r (used w h p q (shorter w h p q)) (f .is) e
+    some = plan-some (same p q) (pictureChunk w h p q) r (used w h p q (shorter w h p q)) f e
 
     pub delta-planned : r .kind ≡ FLI-SS2 → Delta w h p q r
     unfolding pictureChunk deltaChunk
-    delta-planned k = by-test (shorter w h p q) (some .0) (some .1)
-      where
-        by-test : (d : Bool) → r ≡ used w h p q d → flatten (changed p q (pictureChunk w h p q)) ≡ cond d (deltaChunk w h p q) (fullChunk w h q) → Delta w h p q r
-        by-test true x y = record { count = ap (λ (z : Plan). z .count) x; size = ap (λ (z : Plan). z .size) x ∙ delta-length w h p q; bytes = y }
-        by-test false x y = absurd (full-kind w h q (sym (ap (λ (z : Plan). z .kind) x) ∙ k))
+    delta-planned k =
+        by-test (λ d. r ≡ used w h p q d → flatten (changed p q (pictureChunk w h p q)) ≡ cond d (deltaChunk w h p q) (fullChunk w h q) → Delta w h p q r) (shorter w h p q)
+        (λ _ x y. record { size = ap (λ (z : Plan). z .size) x ∙ delta-length w h p q; bytes = y })
+        (λ _ x y. absurd (full-kind w h q (sym (ap (λ (z : Plan). z .kind) x) ∙ k))) (some .0) (some .1)
 
     pub full-planned : (r .kind ≡ FLI-SS2 → ⊥) → Full w h p q r
     unfolding pictureChunk
-    full-planned k = by-test (shorter w h p q) (some .0) (some .1)
-      where
-        by-test : (d : Bool) → r ≡ used w h p q d → flatten (changed p q (pictureChunk w h p q)) ≡ cond d (deltaChunk w h p q) (fullChunk w h q) → Full w h p q r
-        by-test true x y = absurd (k (ap (λ (z : Plan). z .kind) x))
-        by-test false x y = record { kind = ap (λ (z : Plan). z .kind) x; size = ap (λ (z : Plan). z .size) x; bytes = y }
+    full-planned k =
+        by-test (λ d. r ≡ used w h p q d → flatten (changed p q (pictureChunk w h p q)) ≡ cond d (deltaChunk w h p q) (fullChunk w h q) → Full w h p q r) (shorter w h p q)
+        (λ _ x y. absurd (k (ap (λ (z : Plan). z .kind) x)))
+        (λ _ x y. record { kind = ap (λ (z : Plan). z .kind) x; size = ap (λ (z : Plan). z .size) x; bytes = y }) (some .0) (some .1)
 
 -- the whole frame
 
@@ -258,7 +239,7 @@ module _ {a b : List (List ℕ)} {m n : ℕ} {r s : Plan} (x : Counted a m r) (y
       ∙ ap (put d 0) (sym framed-parts)
 
 -- the house frame is small
-pub house-short : {w h : ℕ} {p pp q qq : List ℕ} → Palettes pp qq → Pictures w h p q → length (houseFrame w h (state p pp) (state q qq)) ≤ 65310
+pub house-short : {w h : ℕ} {p pp q qq : List ℕ} → Palettes pp qq → Pictures w h p q → length (houseFrame w h (state p pp) (state q qq)) ≤ frameMost
 unfolding houseFrame houseChunks
 house-short {w} {h} {p} {pp} {q} {qq} x y =
     let a = colour-measured pp qq x in
@@ -275,19 +256,19 @@ module _ (b d : List ℕ) (n : ℕ) (l : length b ≡ n) where
   fitted-whole e h p = ap₂ (λ (x : ℕ) (y : List ℕ). output (Done x) y) (sym l) p ∙ rw (le-leb (length b) (length d) (omega arith))
 
 -- the house frame of the plans r and s
-module _ {w h : ℕ} {p pp q qq : List ℕ} {r s : Plan} (x : Palettes pp qq) (y : Pictures w h p q) (f : ColourPlan pp qq r) (g : PicturePlan w h p q s) where
+module _ (w h : ℕ) (p pp q qq : List ℕ) {r s : Plan} (x : Palettes pp qq) (y : Pictures w h p q) (f : r ≡ colourPlan pp qq) (g : s ≡ picturePlan w h p q) where
   pub house-none : (d : List ℕ) → length d < 16 + r .size + s .size → output (Refused NoRoom 0) d ≡ fitted (houseFrame w h (state p pp) (state q qq)) d
   unfolding houseFrame houseChunks
   house-none d k =
-      fitted-none (houseFrame w h (state p pp) (state q qq)) d (16 + r .size + s .size) (framed-length (colour-counted f x) (picture-counted g y)) k
+      fitted-none (houseFrame w h (state p pp) (state q qq)) d (16 + r .size + s .size) (framed-length (colour-counted pp qq f x) (picture-counted w h p q g y)) k
 
   pub house-stored : (d d₁ d₂ d₃ : List ℕ) → 16 + r .size + s .size ≤ length d → d₁ ≡ put d 0 (headerBytes (16 + r .size + s .size) (r .chunks + s .chunks))
       → d₂ ≡ put d₁ 16 (flatten (changed pp qq (colourChunk pp qq))) → d₃ ≡ put d₂ (16 + r .size) (flatten (changed p q (pictureChunk w h p q)))
       → output (Done (16 + r .size + s .size)) d₃ ≡ fitted (houseFrame w h (state p pp) (state q qq)) d
   unfolding houseFrame houseChunks
   house-stored d d₁ d₂ d₃ room i j k =
-      let a = colour-counted f x in
-      let b = picture-counted g y in
+      let a = colour-counted pp qq f x in
+      let b = picture-counted w h p q g y in
       fitted-whole (houseFrame w h (state p pp) (state q qq)) d (16 + r .size + s .size) (framed-length a b) d₃ room (framed-stored a b d d₁ d₂ d₃ room i j k)
 
 -- the slices of a call

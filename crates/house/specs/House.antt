@@ -1,14 +1,14 @@
 -- House form of a frame (document 01, "House form of a frame"), "Written from a previous and a next state".
-use Prim.Native.Nat.{ℕ, _+_}
+use Prim.Native.Nat.{ℕ, _+_, _*_}
 use mathlib.Core.List.{List, [], _∷_, _++_, flatten}
 use lib.Dec.{ltb}
 use lib.ListN.{length}
 use Rattle.words.specs.Words.{le16, le32, chunk, same}
 use mathlib.Core.Bool.{cond}
-use Rattle.answer.specs.Answer.{State}
+use Rattle.answer.specs.Answer.{State, maxWidth, maxHeight}
 use Rattle.answer.specs.Format.{FRAME-TYPE, FLI-COLOR256, FLI-SS2}
-use Rattle.colours.specs.Colours.{colourBody}
-use Rattle.deltas.specs.Delta.{deltaBody}
+use Rattle.house_colour.specs.Colours.{colourBody, colourMost}
+use Rattle.house_ss2.specs.Delta.{deltaBody}
 use Rattle.fulls.specs.Full.{fullChunk}
 
 -- "Colour: kind 4"
@@ -45,3 +45,13 @@ framed subs =
 unfoldable pub houseFrame : ℕ → ℕ → State → State → List ℕ
 unfolding houseChunks framed
 houseFrame w h s t = framed (houseChunks w h s t)
+
+-- it has no more bytes: its header, a colour chunk, and a picture chunk, which is no longer than the picture's copy
+abbrev pub colourChunkMost : ℕ
+colourChunkMost = 6 + colourMost
+
+abbrev pub pictureMost : ℕ
+pictureMost = 6 + maxWidth * maxHeight
+
+abbrev pub frameMost : ℕ
+frameMost = 16 + colourChunkMost + pictureMost

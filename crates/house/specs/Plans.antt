@@ -8,8 +8,6 @@ use Rattle.words.specs.Words.{le16, le32, same}
 use mathlib.Core.Bool.{cond}
 use Rattle.answer.specs.Answer.{maxWidth, maxHeight}
 use Rattle.answer.specs.Format.{FRAME-TYPE, FLI-COLOR256, FLI-SS2}
-use Rattle.colours.specs.Colours.{changes}
-use Rattle.deltas.specs.Delta.{lineCount}
 use Rattle.fulls.specs.Full.{fullChunk, fullKind}
 use Rattle.house.specs.House.{colourChunk, deltaChunk}
 use Rattle.house.specs.declared.Plan.{Plan}
@@ -30,16 +28,16 @@ pub record Pictures (w h : ℕ) (p q : List ℕ) : Type 0 where
 
 -- no sub-chunk
 abbrev pub nothing : Plan
-nothing = record { chunks = 0; kind = 0; count = 0; size = 0 }
+nothing = record { chunks = 0; kind = 0; size = 0 }
 
--- a sub-chunk of a kind, of n packets or lines, with the bytes b
-abbrev pub planned : ℕ → ℕ → List ℕ → Plan
-planned kind n b = record { chunks = 1; kind = kind; count = n; size = length b }
+-- a sub-chunk of a kind, with the bytes b
+abbrev pub planned : ℕ → List ℕ → Plan
+planned kind b = record { chunks = 1; kind = kind; size = length b }
 
 -- the plan of the colour chunk from the palette p to the palette q
 unfoldable pub colourPlan : List ℕ → List ℕ → Plan
 unfolding colourChunk
-colourPlan p q = cond (same p q) nothing (planned FLI-COLOR256 (length (changes p q)) (colourChunk p q))
+colourPlan p q = cond (same p q) nothing (planned FLI-COLOR256 (colourChunk p q))
 
 -- the plan of the picture chunk from the picture p to the picture q
 unfoldable pub picturePlan : ℕ → ℕ → List ℕ → List ℕ → Plan
@@ -47,17 +45,8 @@ unfolding deltaChunk
 picturePlan w h p q =
     cond (same p q) nothing
     (cond (ltb (length (deltaChunk w h p q)) (length (fullChunk w h q)))
-    (planned FLI-SS2 (lineCount w h p q) (deltaChunk w h p q))
-    (planned (fullKind w h q) 0 (fullChunk w h q)))
-
--- r is that plan; the bound is what storing the count asks
-pub record ColourPlan (p q : List ℕ) (r : Plan) : Type 0 where
-  pub is : r ≡ colourPlan p q
-  pub few : r .count ≤ 256
-
-pub record PicturePlan (w h : ℕ) (p q : List ℕ) (r : Plan) : Type 0 where
-  pub is : r ≡ picturePlan w h p q
-  pub few : r .count ≤ h
+    (planned FLI-SS2 (deltaChunk w h p q))
+    (planned (fullKind w h q) (fullChunk w h q)))
 
 -- a frame's header: size, type F1FA, count, "the 8 reserved bytes are 0"
 unfoldable pub headerBytes : ℕ → ℕ → List ℕ

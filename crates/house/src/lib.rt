@@ -6,7 +6,7 @@ ghost use Prim.Native.Nat.{_+_, _<_, _≤_};
 ghost use lib.ListN.{length};
 ghost use Rattle.words.specs.Writes.{put};
 ghost use Rattle.house.specs.House.{colourChunk, pictureChunk, changed, houseFrame};
-ghost use Rattle.house.specs.Plans.{Palettes, Pictures, ColourPlan, PicturePlan, headerBytes};
+ghost use Rattle.house.specs.Plans.{Palettes, Pictures, colourPlan, picturePlan, headerBytes};
 ghost use Rattle.answer.specs.Answer.{state};
 ghost use Rattle.house.specs.Writing.{output, fitted, writeFrame};
 use answer::FLI_COLOR256;
@@ -19,33 +19,30 @@ use frame::holds;
 use words::put_header;
 use words::same_bytes;
 
-// A sub-chunk before it is written: how many there are (0 or 1), its kind, its packets or lines, its bytes.
+// A sub-chunk before it is written: how many there are (0 or 1), its kind, its bytes.
 struct Plan {
     chunks: usize,
     kind: usize,
-    count: usize,
     size: usize,
 }
 
 // Plans the colour chunk.
 fn measure_colours(previous: &[u8], next: &[u8]) -> Plan
     requires { ⌜ Palettes (now previous) (now next) ⌝ }
-    ensures { λ r. ⌜ ColourPlan (now (previous .entry)) (now (next .entry)) r ⌝ }
+    ensures { λ r. ⌜ r ≡ colourPlan (now (previous .entry)) (now (next .entry)) ⌝ }
 {
     if same_bytes(previous, next) {
         return Plan {
             chunks: 0,
             kind: 0,
-            count: 0,
             size: 0,
         };
     }
-    let body = colours::measure_colour(previous, next);
+    let body = house_colour::colour_size(previous, next);
     Plan {
         chunks: 1,
         kind: FLI_COLOR256,
-        count: body.count,
-        size: 6 + body.size,
+        size: 6 + body,
     }
 }
 
@@ -53,24 +50,22 @@ fn measure_colours(previous: &[u8], next: &[u8]) -> Plan
 // picture has edges: then it is, and the least BRUN rows need not be searched for.
 fn measure_picture(previous: &[u8], next: &[u8], width: usize, height: usize) -> Plan
     requires { ⌜ Pictures width height (now previous) (now next) ⌝ }
-    ensures { λ r. ⌜ PicturePlan width height (now (previous .entry)) (now (next .entry)) r ⌝ }
+    ensures { λ r. ⌜ r ≡ picturePlan width height (now (previous .entry)) (now (next .entry)) ⌝ }
 {
     if same_bytes(previous, next) {
         return Plan {
             chunks: 0,
             kind: 0,
-            count: 0,
             size: 0,
         };
     }
-    let delta = deltas::measure_delta(previous, next, width, height);
-    if !fulls::more_edges(next, width, height, delta.size) {
+    let delta = house_ss2::delta_size(previous, next, width, height);
+    if !fulls::more_edges(next, width, height, delta) {
         let full = fulls::measure_full(next, width, height);
-        if full.size <= 6 + delta.size {
+        if full.size <= 6 + delta {
             return Plan {
                 chunks: 1,
                 kind: full.kind,
-                count: 0,
                 size: full.size,
             };
         }
@@ -78,8 +73,7 @@ fn measure_picture(previous: &[u8], next: &[u8], width: usize, height: usize) ->
     Plan {
         chunks: 1,
         kind: FLI_SS2,
-        count: delta.count,
-        size: 6 + delta.size,
+        size: 6 + delta,
     }
 }
 
@@ -95,7 +89,7 @@ fn put_frame_header(out: &mut [u8], size: usize, count: usize)
 
 // Writes the colour chunk as planned.
 fn write_colours(out: &mut [u8], at: usize, previous: &[u8], next: &[u8], plan: Plan)
-    requires { ⌜ Palettes (now previous) (now next) × ColourPlan (now previous) (now next) plan × (at + plan .size ≤ length (now out)) ⌝ }
+    requires { ⌜ Palettes (now previous) (now next) × (plan ≡ colourPlan (now previous) (now next)) × (at + plan .size ≤ length (now out)) ⌝ }
     ensures { λ _.
         ⌜ now (out .exit)
         ≡ put (now (out .entry)) at (flatten (changed (now (previous .entry)) (now (next .entry)) (colourChunk (now (previous .entry)) (now (next .entry))))) ⌝ }
@@ -104,7 +98,7 @@ fn write_colours(out: &mut [u8], at: usize, previous: &[u8], next: &[u8], plan: 
         return;
     }
     put_header(out, at, plan.size, FLI_COLOR256);
-    colours::write_colour(out, at + 6, previous, next, plan.count);
+    house_colour::write_colour(out, at + 6, previous, next);
 }
 
 // Writes the picture chunk as planned.
@@ -117,7 +111,7 @@ fn write_picture(
     height: usize,
     plan: Plan,
 )
-    requires { ⌜ Pictures width height (now previous) (now next) × PicturePlan width height (now previous) (now next) plan
+    requires { ⌜ Pictures width height (now previous) (now next) × (plan ≡ picturePlan width height (now previous) (now next))
         × (at + plan .size ≤ length (now out)) ⌝ }
     ensures { λ _.
         ⌜ now (out .exit)
@@ -128,7 +122,7 @@ fn write_picture(
     }
     if plan.kind == FLI_SS2 {
         put_header(out, at, plan.size, FLI_SS2);
-        deltas::write_delta(out, at + 6, previous, next, width, height, plan.count);
+        house_ss2::write_delta(out, at + 6, previous, next, width, height);
         return;
     }
     fulls::write_full(out, at, next, width, height, plan.kind);

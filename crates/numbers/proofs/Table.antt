@@ -10,12 +10,13 @@ use Rattle.frame.specs.Frame.{subChunk}
 use Rattle.least.specs.Least.{best, table, chosen, choose, better, via}
 use Rattle.rows.specs.Row.{houseBytes, bytes, house, allowed, down, equal}
 use Rattle.fulls.specs.Full.{brunRow, brunBody, allZero, shorter, fullChunk}
-use Rattle.cells.specs.Cells.{cells, behind, stretches}
-use Rattle.delta_lines.specs.Line as line′
-use Rattle.deltas.specs.Delta as delta′
+use Rattle.house_cells.specs.Cells.{cells, behind, stretches}
+use Rattle.house_packets.specs.Packets as house′
+use Rattle.house_ss2.specs.Line as line′
+use Rattle.house_ss2.specs.Delta as delta′
 use Rattle.house.specs.House.{colourChunk, deltaChunk, pictureChunk, houseChunks, framed, houseFrame}
 use Rattle.numbers.specs.Numbers.{holds, all, upFrom, stripes, numbers}
 
 pub numbers-hold : T (all numbers)
-unfolding all holds numbers upFrom stripes blank subChunk same chunk magnitude u16At colour′.colour colour′.packets colour′.packetAt colour′.packetOf colour′.countOf colour′.levelsOk colour′.level ss2′.ss2 ss2′.lines ss2′.lineAt ss2′.lastAt ss2′.wordOf ss2′.lineWalk packets′.packets houseBytes bytes house allowed down equal best table chosen choose better via brunRow brunBody allZero shorter fullChunk cells behind stretches line′.packetBytes line′.equals line′.repeats line′.singles line′.packet line′.packed line′.shortenings line′.spanPackets line′.stretchPackets line′.pairPackets line′.counted line′.lastChanges line′.line delta′.skipWord delta′.stretchLines delta′.changes delta′.lineCount delta′.deltaBody flatten flatMap colourChunk deltaChunk pictureChunk houseChunks framed houseFrame
+unfolding all holds numbers upFrom stripes blank subChunk same chunk magnitude u16At colour′.colour colour′.packets colour′.packetAt colour′.packetOf colour′.countOf colour′.levelsOk colour′.level ss2′.ss2 ss2′.lines ss2′.lineAt ss2′.lastAt ss2′.wordOf ss2′.lineWalk packets′.packets houseBytes bytes house allowed down equal best table chosen choose better via brunRow brunBody allZero shorter fullChunk cells behind stretches house′.packetBytes house′.equals house′.repeats house′.upToRepeat house′.firstPacket house′.unitPackets house′.shortenings house′.gapPackets house′.stretchPackets house′.rowPackets line′.counted line′.lastChanges line′.line delta′.skipWord delta′.stretchLines delta′.changedRows delta′.lineCount delta′.deltaBody flatten flatMap colourChunk deltaChunk pictureChunk houseChunks framed houseFrame
 numbers-hold = tt

@@ -12,7 +12,7 @@ use Rattle.answer.specs.declared.Verdict.{Verdict}
 use Rattle.answer.specs.declared.Verdict.the-variants.{Ends, Fault}
 use Rattle.frame.specs.Frame.{subChunk}
 use Rattle.rows.specs.Row.{houseBytes}
-use Rattle.deltas.specs.Delta.{deltaBody}
+use Rattle.house_ss2.specs.Delta.{deltaBody}
 use Rattle.house.specs.House.{houseFrame}
 
 -- what a body does: it is accepted and sets these bytes from that index on and nothing else, or it is refused with a number

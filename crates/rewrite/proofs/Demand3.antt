@@ -21,8 +21,8 @@ use Rattle.answer.specs.declared.Refusal.the-variants.{ShortSlice, BadSize, NoR
 use Rattle.answer.specs.declared.Answer.{Answer}
 use Rattle.answer.specs.declared.Answer.the-variants.{Done, Refused}
 use Rattle.answer.proofs.Laws.{size-in}
-use Rattle.colours.specs.Colours.{colourBody}
-use Rattle.colours.proofs.ReadsBack.{colour-short}
+use Rattle.house_colour.specs.Colours.{colourBody}
+use Rattle.house_colour.proofs.ReadsBack.{colour-short}
 use Rattle.fulls.specs.Full.{fullChunk}
 use Rattle.fulls.proofs.FullLeast.{FullLeast, full-least}
 use Rattle.answer.specs.declared.Verdict.the-variants.{Ends}
@@ -32,7 +32,7 @@ use Rattle.frame.proofs.Laws.{read-settled, enough-in, enough-is}
 use Rattle.frame.proofs.Theorems.{picture-kept, palette-kept}
 use Rattle.frame.proofs.Bytewise.{frame-bytewise}
 use Rattle.house.proofs.Laws.{picture-short}
-use Rattle.house.specs.House.{colourChunk, pictureChunk, houseChunks, framed, houseFrame}
+use Rattle.house.specs.House.{colourChunk, pictureChunk, houseChunks, framed, houseFrame, frameMost}
 use Rattle.answer.specs.declared.Written.the-variants as wrote
 use Rattle.house.specs.Writing.{Output, output, fitted}
 use Rattle.roundtrip.specs.Plays.{Plays}
@@ -402,7 +402,7 @@ module _ (w h : ℕ) (p q : List ℕ) (bp : Bytes p) where
         full-shorter w h (frame w h c) old new kind size (length-take-le (w * h) p (long w h p q b tb .0)) f (frame-single w h c kind size (tc .answer) one) pictures,
       )
 
-  room-part : (b wp wq out : List ℕ) → Bytes b → Accepted w h p q b → w * h ≤ length wp → 768 ≤ length wq → 65310 ≤ length out
+  room-part : (b wp wq out : List ℕ) → Bytes b → Accepted w h p q b → w * h ≤ length wp → 768 ≤ length wq → frameMost ≤ length out
       → RoomEnough (rewriteFrame b w h p q wp wq out)
   room-part b wp wq out bb a lw lq lo =
       let t = taken b w h p q a in

@@ -22,13 +22,13 @@ use Rattle.picture.specs.Picture.{black, copied}
 use Rattle.brun.specs.Brun.{brun}
 use Rattle.ss2.specs.Ss2.{ss2}
 use Rattle.frame.specs.Frame.{ChunkWalk, onPicture, onPalette, subChunk, frame}
-use Rattle.colours.specs.Colours.{colourBody}
-use Rattle.colours.proofs.ReadsBack.{colour-reads-back, colour-short}
-use Rattle.deltas.specs.Delta.{deltaBody}
-use Rattle.deltas.proofs.ReadsBack.{delta-reads-back}
+use Rattle.house_colour.specs.Colours.{colourBody}
+use Rattle.house_colour.proofs.ReadsBack.{colour-reads-back, colour-short}
+use Rattle.house_ss2.specs.Delta.{deltaBody}
+use Rattle.house_ss2.proofs.ReadsBack.{delta-reads-back}
 use Rattle.fulls.specs.Full.{brunBody, allZero, shorter, fullChunk}
 use Rattle.fulls.proofs.ReadsBack.{brun-reads-back, copy-reads-back, black-reads-back}
-use Rattle.house.specs.House.{colourChunk, deltaChunk, pictureChunk, changed, houseChunks, houseFrame}
+use Rattle.house.specs.House.{colourChunk, deltaChunk, pictureChunk, changed, houseChunks, houseFrame, pictureMost, frameMost}
 use Rattle.house.proofs.Laws.{house-short}
 use Rattle.roundtrip.specs.Plays.{Acts, Plays}
 use Rattle.roundtrip.proofs.Frames.{Subs, none, sub, length-framed, framed-plays}
@@ -81,16 +81,16 @@ pub record Good (w h : ℕ) (p q x : List ℕ) : Type 0 where
   pub coloured : kind ≡ FLI-COLOR256 → ⊥
   pub body : List ℕ
   pub is : x ≡ chunk kind body
-  pub short : length x ≤ 64006
+  pub short : length x ≤ pictureMost
   pub acts : (r : List ℕ) → Acts (subChunk w h kind body) p r q r
 
 module _ (w h : ℕ) (p q : List ℕ) (some : 1 ≤ w) (wide : w ≤ maxWidth) (high : h ≤ maxHeight)
     (lp : length p ≡ w * h) (lq : length q ≡ w * h) (bq : Bytes q) where
-  area : w * h ≤ 64000
+  area : w * h ≤ maxWidth * maxHeight
   area = mul-le-mul wide high
 
   good : (kind : ℕ) (body : List ℕ) (k : Walk) (end : ℕ) → (kind ≡ FLI-COLOR256 → ⊥) → subChunk w h kind body ≡ onPicture k → Gives k end p q
-      → length (chunk kind body) ≤ 64006 → Good w h p q (chunk kind body)
+      → length (chunk kind body) ≤ pictureMost → Good w h p q (chunk kind body)
   good kind body k end other e g l =
       record { kind = kind; coloured = other; body = body; is = refl; short = l; acts = λ r. acts-as e (on-picture k end p q r g) }
 
@@ -99,7 +99,7 @@ module _ (w h : ℕ) (p q : List ℕ) (some : 1 ≤ w) (wide : w ≤ maxWidth) (
       good FLI-COPY q (copied (w * h) q) (length q) (λ e. omega arith) (copy-walk w h q) (copy-reads-back w h p q lp lq)
       (omega (arith, length-chunk FLI-COPY q, area))
 
-  good-brun : length (chunk FLI-BRUN (brunBody w h q)) ≤ 64006 → Good w h p q (chunk FLI-BRUN (brunBody w h q))
+  good-brun : length (chunk FLI-BRUN (brunBody w h q)) ≤ pictureMost → Good w h p q (chunk FLI-BRUN (brunBody w h q))
   good-brun =
       good FLI-BRUN (brunBody w h q) (brun w h (brunBody w h q)) (length (brunBody w h q)) (λ e. omega arith)
       (brun-walk w h (brunBody w h q)) (brun-reads-back w h p q lp lq)
@@ -108,7 +108,7 @@ module _ (w h : ℕ) (p q : List ℕ) (some : 1 ≤ w) (wide : w ≤ maxWidth) (
   good-black z =
       good FLI-BLACK [] (black (w * h)) 0 (λ e. omega arith) (black-walk w h []) (black-reads-back w h p q lp lq z) (omega (arith, length-chunk FLI-BLACK []))
 
-  good-delta : length (deltaChunk w h p q) ≤ 64006 → Good w h p q (deltaChunk w h p q)
+  good-delta : length (deltaChunk w h p q) ≤ pictureMost → Good w h p q (deltaChunk w h p q)
   unfolding deltaChunk
   good-delta =
       good FLI-SS2 (deltaBody w h p q) (ss2 w h (deltaBody w h p q)) (length (deltaBody w h p q)) (λ e. omega arith)
@@ -173,7 +173,7 @@ module _ (w h : ℕ) (p q : List ℕ) (some : 1 ≤ w) (wide : w ≤ maxWidth) (
 module _ (w h : ℕ) (s t : State) (some : 1 ≤ w) (wide : w ≤ maxWidth) (low : 1 ≤ h) (high : h ≤ maxHeight)
     (zs : Sized w h s) (zt : Sized w h t) where
   -- the house frame lies well within 32 bits
-  pub house-small : length (houseFrame w h s t) ≤ 65310
+  pub house-small : length (houseFrame w h s t) ≤ frameMost
   house-small =
       house-short (record { previous = zs .colours; next = zt .colours })
       (record { some-wide = some; wide = wide; some-high = low; high = high; previous = zs .pixels; next = zt .pixels })

@@ -59,8 +59,8 @@ fn line(file: &Path) -> Outcome<(bool, String)> {
 
 fn checked(bytes: &[u8]) -> flic::Result<()> {
     check_reel(bytes)?;
-    match Header::of(bytes) {
-        Some(header) if bytes.len() > header.size as usize => check_trailer(bytes),
-        _ => Ok(()),
+    match bytes.len() > Header::read(bytes)?.size as usize {
+        true => check_trailer(bytes),
+        false => Ok(()),
     }
 }

@@ -5,8 +5,9 @@ use crate::tool::arguments::Arguments;
 use crate::tool::failure::Outcome;
 use crate::tool::progress::Progress;
 use crate::tool::say::say;
+use crate::tool::stored::{chunks, sub_chunks, StoredHeader, FRAME_HEADER};
 use crate::tool::{files, refused};
-use flic::{check_trailer, CheckedReel, Header, Refusal, Refused, FILE_HEADER, FRAME, FRAME_HEADER};
+use flic::{check_trailer, CheckedReel, Refusal, Refused, FILE_HEADER};
 use std::collections::BTreeMap;
 
 pub const COMMAND: Command = Command {
@@ -28,14 +29,14 @@ fn run(arguments: Arguments) -> Outcome {
     let reel = CheckedReel::new(&bytes);
     drop(progress);
     let is_flc = !matches!(reel, Err(Refused { refusal: Refusal::WrongType, .. }));
-    if let Some(header) = Header::of(&bytes).filter(|_| is_flc) {
+    if let Some(header) = StoredHeader::of(&bytes).filter(|_| is_flc) {
         say(&fields(&header))?;
     }
     let reel = refused::accepted(&file, &bytes, reel)?;
     say(&table(&shares(&reel, &bytes), bytes.len()))
 }
 
-fn fields(header: &Header) -> String {
+fn fields(header: &StoredHeader) -> String {
     let closed = if header.flags == 3 { "closed" } else { "not closed" };
     let rows = [
         ("size", format!("{} bytes", header.size)),
@@ -70,9 +71,12 @@ fn shares(reel: &CheckedReel, bytes: &[u8]) -> Vec<Share> {
     let frames = reel.frame_chunks();
     let mut kinds: BTreeMap<u16, (usize, usize)> = BTreeMap::new();
     let (mut spare_count, mut spare_bytes) = (0, 0);
+    let (mut others, mut at) = (Vec::new(), FILE_HEADER);
     for frame in frames {
+        others.extend(chunks(&bytes[at..frame.offset]).map(|chunk| chunk.size));
+        at = frame.end();
         let mut held = FRAME_HEADER;
-        for chunk in reel.sub_chunks(*frame) {
+        for chunk in sub_chunks(&bytes[frame.offset..frame.end()]) {
             let (count, bytes) = kinds.entry(chunk.kind).or_default();
             (*count, *bytes) = (*count + 1, *bytes + chunk.size);
             held += chunk.size;
@@ -80,8 +84,7 @@ fn shares(reel: &CheckedReel, bytes: &[u8]) -> Vec<Share> {
         spare_count += usize::from(held < frame.size);
         spare_bytes += frame.size - held;
     }
-    let others: Vec<usize> = reel.chunks().iter().filter(|chunk| chunk.kind != FRAME).map(|chunk| chunk.size).collect();
-    let after_ring = size - frames.last().map_or(size, |ring| ring.end());
+    let after_ring = size - at;
     let behind = bytes.len() - size;
     let trailer = if check_trailer(bytes).is_ok() { "trailer" } else { "behind the reel, not its trailer" };
 

@@ -62,5 +62,5 @@ fn write(file: &Path) -> Outcome {
 
 /// How many bytes stand behind the reel.
 fn behind(bytes: &[u8]) -> usize {
-    Header::of(bytes).map_or(0, |header| bytes.len().saturating_sub(header.size as usize))
+    Header::read(bytes).map_or(0, |header| bytes.len() - header.size as usize)
 }

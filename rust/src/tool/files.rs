@@ -2,12 +2,15 @@
 
 use super::failure::{wrong, Outcome};
 use super::progress::Progress;
-use flic::{Header, FILE_HEADER, TRAILER_MOST};
+use flic::{Header, Refusal, Refused, FILE_HEADER, TRAILER_MOST};
 use std::ffi::OsString;
 use std::fs::{self, File, OpenOptions};
 use std::io::{self, ErrorKind, Read, Write};
 use std::path::{Path, PathBuf};
 use std::process;
+
+/// How much of a file is read at a time, until its reel is there.
+const WINDOW: u64 = 1 << 20;
 
 pub fn read(file: &Path) -> Outcome<Vec<u8>> {
     fs::read(file).or_else(|error| unreadable(file, &error))
@@ -21,9 +24,18 @@ pub fn read_reel(file: &Path) -> Outcome<Vec<u8>> {
 
 fn reel_in(file: &Path) -> io::Result<Vec<u8>> {
     let (source, mut bytes) = (File::open(file)?, Vec::new());
-    (&source).take(FILE_HEADER as u64).read_to_end(&mut bytes)?;
-    let end = Header::of(&bytes).map_or(0, |header| u64::from(header.size) + TRAILER_MOST as u64 + 1);
-    source.take(end.saturating_sub(FILE_HEADER as u64)).read_to_end(&mut bytes)?;
+    let end = loop {
+        let found = (&source).take(WINDOW).read_to_end(&mut bytes)?;
+        match Header::read(&bytes) {
+            Ok(header) => break header.size as usize + TRAILER_MOST + 1,
+            // The reel may go on in what isn't read yet.
+            Err(Refused { refusal: Refusal::Cut, .. }) if found > 0 => {}
+            // So the check will refuse it, whatever comes behind.
+            Err(_) => return Ok(bytes),
+        }
+    };
+    source.take(end.saturating_sub(bytes.len()) as u64).read_to_end(&mut bytes)?;
+    bytes.truncate(end);
     Ok(bytes)
 }
 
@@ -58,10 +70,17 @@ pub fn may_be_replaced(target: &Path) -> Outcome {
 
 fn is_flc_or_empty(file: &Path) -> Outcome<bool> {
     let mut front = Vec::new();
-    match File::open(file).and_then(|file| file.take(6).read_to_end(&mut front)) {
-        Ok(_) => Ok(front.is_empty() || front.ends_with(&[0x12, 0xAF])),
+    match File::open(file).and_then(|file| file.take(FILE_HEADER as u64).read_to_end(&mut front)) {
+        Ok(_) => Ok(front.is_empty() || is_flc(front)),
         Err(error) => unreadable(file, &error),
     }
+}
+
+/// Whether a file that begins so has the magic of a FLC file, right or damaged: that is judged first, once there are as
+/// many bytes as a header has.
+fn is_flc(mut front: Vec<u8>) -> bool {
+    front.resize(FILE_HEADER, 0);
+    !matches!(Header::read(&front), Err(Refused { refusal: Refusal::WrongType, .. }))
 }
 
 fn put(target: &Path, bytes: &[u8]) -> io::Result<()> {

@@ -8,3 +8,4 @@ pub mod image;
 pub mod progress;
 pub mod refused;
 pub mod say;
+pub mod stored;

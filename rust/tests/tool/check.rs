@@ -83,6 +83,28 @@ fn a_file_of_any_size_is_checked_and_played() {
 }
 
 #[test]
+fn a_reel_longer_than_is_read_at_once_is_checked_and_played() {
+    let bench = Bench::with_reel(&pictures(2));
+    let frames = bench.frames("reel.flc", "1");
+    let mut bytes = bench.read("reel.flc");
+    // A chunk of an unknown kind before frame 1.
+    let mut other = vec![7; 3_000_000];
+    other[..4].copy_from_slice(&3_000_000u32.to_le_bytes());
+    bytes.splice(128..128, other);
+    let size = bytes.len() as u32;
+    bytes[..4].copy_from_slice(&size.to_le_bytes());
+    for length in [bytes.len() as u64, 1 << 33] {
+        bench.write("reel.flc", &bytes);
+        bench.lengthen("reel.flc", length);
+        assert_eq!(bench.frames("reel.flc", "1"), frames, "{length}");
+    }
+    let err = bench.fails(1, &["trailer", "check", "reel.flc"]);
+    assert!(err.starts_with("flic: reel.flc: refused 17 at offset 0, in the trailer: "), "{err}");
+    let line = refusal(&bench, &bytes[..2_500_000]);
+    assert!(line.starts_with("reel.flc: refused 4 at offset 0, in the file header: "), "{line}");
+}
+
+#[test]
 fn every_file_is_told_of() {
     let bench = Bench::with_reel(&pictures(2));
     bench.write("empty.flc", b"");

@@ -2,7 +2,9 @@
 
 use crate::bench::Bench;
 use crate::pictures::pictures;
-use flic::{CheckedReel, State, FRAME};
+use flic::{CheckedReel, State};
+
+const FRAME: u16 = 0xF1FA;
 
 /// The same reel with every frame a COPY and all colours, a chunk before them, and bytes after the ring.
 fn sloppy(bytes: &[u8]) -> Vec<u8> {

@@ -1,4 +1,5 @@
-//! Compares the library's trailers and listings with the model, and the whole-reel check before and after a trailer.
+//! Compares the library's trailers, listings and steps with the model, and the whole-reel check before and after a
+//! trailer.
 
 #[path = "../library.rs"]
 mod library;
@@ -8,9 +9,9 @@ use flic_tests::cases::Family;
 use flic_tests::command::{fail, require_seen, task_or_exit, Task};
 use flic_tests::compare::{print_bytes, Difference};
 use flic_tests::model::reel_mistakes::Mistake;
-use flic_tests::reels::examples::blank_reel;
-use flic_tests::trailers::boundary::{ListCall, Subject, TrailerCall};
-use flic_tests::trailers::cases::{ListCase, TrailerCase};
+use flic_tests::reels::examples::{blank_reel, SPEED};
+use flic_tests::trailers::boundary::{FlicHeader, FlicSpan, HeaderCall, ListCall, StepCall, Subject, TrailerCall};
+use flic_tests::trailers::cases::{ListCase, StepCase, TrailerCase};
 use flic_tests::trailers::compare::comparing;
 use flic_tests::trailers::examples::{BLANK_LISTING, BLANK_TRAILER};
 use flic_tests::trailers::families::FAMILIES;
@@ -24,6 +25,8 @@ const LIBRARY: Subject = Subject {
     checks: library::checks_trailer,
     writes: library::writes_trailer,
     lists: library::lists,
+    reads_header: library::reads_header,
+    steps: library::steps,
 };
 
 fn main() {
@@ -39,6 +42,7 @@ fn whole_run(base: u64) {
     println!("trailers: base seed {base}; a batch's seed follows from it, the family and the batch's number");
     self_check(base);
     named_example(base);
+    stepped_example(base);
     files_past_32_bits();
     let mut met = Met::nothing();
     for family in &FAMILIES {
@@ -81,6 +85,8 @@ fn print_difference(case: &TrailerCase, difference: &Difference) {
         TrailerCase::Check(bytes) => ("a check of a trailer".to_string(), bytes),
         TrailerCase::Write(bytes) => ("a writing of a trailer".to_string(), bytes),
         TrailerCase::List(case) => (format!("a listing into {} bytes", case.out.len()), &case.bytes),
+        TrailerCase::Header(bytes) => ("a reading of a header".to_string(), bytes),
+        TrailerCase::Step(case) => (format!("a step from offset {}", case.at), &case.bytes),
         TrailerCase::Around(case) => ("a reel's check before and after its trailer".to_string(), &case.bytes),
     };
     println!("trailers: a difference in {call}");
@@ -130,6 +136,24 @@ fn named_example(base: u64) {
         fail("  bytes or answers differ", "make these calls alone and follow the first that differs");
     }
     println!("trailers: document 01's blank reel of 1 by 1 has the trailer and the listing that it says");
+}
+
+/// Reads the header of document 01's blank reel of 1 by 1 and steps through it with the library alone.
+fn stepped_example(base: u64) {
+    let bytes = blank_reel();
+    let header = library::reads_header(&mut HeaderCall::lending(&bytes, base));
+    let wanted = FlicHeader { number: 0, place: 0, width: 1, height: 1, frames: 1, size: 160, speed: SPEED };
+    let spans =
+        [128, 144, 160].map(|at| library::steps(&mut StepCall::lending(&StepCase { bytes: bytes.clone(), at }, base)));
+    let frame = |from| FlicSpan { number: 0, place: 0, from, end: from + 16 };
+    let wanted_spans = [frame(128), frame(144), FlicSpan { number: 15, place: 160, from: 0, end: 0 }];
+    if header != wanted || spans != wanted_spans {
+        println!("trailers: document 01's blank reel of 1 by 1 isn't stepped through as it says");
+        println!("  library: {header:?}, {spans:?}");
+        println!("  wanted:  {wanted:?}, {wanted_spans:?}");
+        fail("  answers differ", "make these calls alone and follow the first that differs");
+    }
+    println!("trailers: the header and the frames of document 01's blank reel of 1 by 1 are where it says");
 }
 
 fn files_past_32_bits() {

@@ -1,13 +1,17 @@
-//! One case of the damage run: what all ten entry points are handed, and the file in which it is kept.
+//! One case of the damage run: what all twelve entry points are handed, and the file in which it is kept.
 
+use super::spans::Spans;
+use flic_tests::model::file_header::FILE_HEADER;
 use flic_tests::model::reel::Reel;
+use flic_tests::model::rng::{mix, Rng};
 use flic_tests::states::State;
 use std::ops::Range;
 
 /// What the calls of one case are made from.
 #[derive(Clone, Debug, PartialEq, Eq)]
 pub struct Case {
-    /// Gives the bytes that an output holds before the call, and the sides on which guard pages stand.
+    /// Gives the bytes that an output holds before the call, the sides on which guard pages stand, and the offset from
+    /// which the next frame is looked for.
     pub seed: u64,
     /// The size that is handed to the calls on frames, and to an open.
     pub width: u64,
@@ -28,6 +32,7 @@ pub struct Case {
     pub bytes: Vec<u8>,
 }
 
+const OFFSET_MARK: u64 = 0x0FF5;
 const MARK: [u8; 8] = *b"FLICdmg1";
 const NUMBERS: usize = 18;
 
@@ -75,6 +80,22 @@ impl Case {
     /// The frame that is read and rewritten.
     pub fn frame_bytes(&self) -> &[u8] {
         &self.bytes[self.frame.clone()]
+    }
+
+    /// Where the next frame is looked for: from the first chunk on, at a chunk's begin or end, around the end of the
+    /// bytes, anywhere, or far away.
+    pub fn offset(&self) -> u64 {
+        let rng = &mut Rng::new(mix(self.seed, OFFSET_MARK));
+        let (spans, length) = (Spans::of(&self.bytes).all, self.bytes.len());
+        let at = match rng.below(8) {
+            0 | 1 => FILE_HEADER,
+            2 | 3 if !spans.is_empty() => rng.pick(&spans).start,
+            4 if !spans.is_empty() => rng.pick(&spans).end,
+            5 => length.saturating_sub(rng.below(20)),
+            6 => return rng.pick(&[length as u64 + 1, 1 << 32, u64::MAX - 5, u64::MAX]),
+            _ => rng.below(length + 1),
+        };
+        at as u64
     }
 
     /// The case that a file holds; bytes after it are left.

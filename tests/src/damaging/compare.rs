@@ -1,4 +1,4 @@
-//! Puts one case through the ten entry points, and compares each answer and every lent byte with the model.
+//! Puts one case through the twelve entry points, and compares each answer and every lent byte with the model.
 
 use super::case::Case;
 use super::guarded::{choose, Sides};
@@ -9,7 +9,7 @@ use flic_tests::model::rng::{mix, Rng};
 use flic_tests::model::{decode, encode, reel_mistakes};
 use flic_tests::reels::cases::{AddCase, CheckCase, CloseCase, OpenCase, ReelCase};
 use flic_tests::reels::compare::comparing as comparing_reel;
-use flic_tests::trailers::cases::{ListCase, TrailerCase};
+use flic_tests::trailers::cases::{ListCase, StepCase, TrailerCase};
 use flic_tests::trailers::compare::comparing as comparing_trailer;
 use flic_tests::write_cases::{RewriteCase, WriteCase};
 
@@ -26,9 +26,11 @@ pub enum Entry {
     CheckTrailer,
     WriteTrailer,
     List,
+    ReadHeader,
+    NextFrame,
 }
 
-pub const ENTRIES: [Entry; 10] = [
+pub const ENTRIES: [Entry; 12] = [
     Entry::ReadFrame,
     Entry::WriteFrame,
     Entry::RewriteFrame,
@@ -39,6 +41,8 @@ pub const ENTRIES: [Entry; 10] = [
     Entry::CheckTrailer,
     Entry::WriteTrailer,
     Entry::List,
+    Entry::ReadHeader,
+    Entry::NextFrame,
 ];
 
 impl Entry {
@@ -54,6 +58,8 @@ impl Entry {
             Entry::CheckTrailer => "check_trailer",
             Entry::WriteTrailer => "write_trailer",
             Entry::List => "list",
+            Entry::ReadHeader => "read_header",
+            Entry::NextFrame => "next_frame",
         }
     }
 }
@@ -107,6 +113,8 @@ impl Comparer {
                 let out = Rng::new(seed).bytes(case.list_room);
                 self.trailer(&TrailerCase::List(ListCase { bytes, out }), seed)
             }
+            Entry::ReadHeader => self.trailer(&TrailerCase::Header(bytes), seed),
+            Entry::NextFrame => self.trailer(&TrailerCase::Step(StepCase { bytes, at: case.offset() }), seed),
         }
     }
 

@@ -1,4 +1,5 @@
-//! The whole life of a reel, from a case's states: opened, added to, closed, checked, played, given a trailer, listed.
+//! The whole life of a reel, from a case's states: opened, added to, closed, checked, played, given a trailer, listed,
+//! stepped through.
 
 use super::case::Case;
 use super::compare::{Comparer, Entry};
@@ -7,14 +8,16 @@ use super::numbers;
 use flic_tests::compare::Difference;
 use flic_tests::model::accepted_size;
 use flic_tests::model::build::{add_frame, close_reel, open_reel};
+use flic_tests::model::file_header::{read_header, FILE_HEADER};
 use flic_tests::model::listing::text;
 use flic_tests::model::reel::Reel;
 use flic_tests::model::rng::{mix, Rng};
+use flic_tests::model::top_level::next_frame;
 use flic_tests::model::trailer::write_trailer;
 use flic_tests::reels::cases::{AddCase, CheckCase, CloseCase, OpenCase, PlayCase, ReelCase};
 use flic_tests::sizes::exact;
 use flic_tests::states::{any_state, State};
-use flic_tests::trailers::cases::{ListCase, TrailerCase};
+use flic_tests::trailers::cases::{ListCase, StepCase, TrailerCase};
 use flic_tests::trailers::make::trailer_length;
 use flic_tests::write_cases::ample_room;
 
@@ -133,23 +136,39 @@ impl Life<'_> {
             let play = PlayCase { bytes: bytes.clone(), width, height, states: asked };
             self.call(Entry::ReadFrame, &ReelCase::Play(play), count)?;
         }
-        self.trailer(bytes, count)
+        self.trailer(bytes.clone(), count)?;
+        self.step_through(bytes, count)
+    }
+
+    /// A call that is done of a reel that was built in order.
+    fn done(&mut self, entry: Entry, case: TrailerCase, count: Count) -> Result<(), (Entry, Difference)> {
+        let seed = self.seed();
+        let number = self.comparer.trailer(&case, seed).map_err(|difference| (entry, difference))?;
+        count(entry, number);
+        self.require_done(entry, number)
     }
 
     fn trailer(&mut self, bytes: Vec<u8>, count: Count) -> Result<(), (Entry, Difference)> {
         let mut file = [&bytes[..], &vec![0xEE; trailer_length(&bytes)]].concat();
-        let mut call = |life: &mut Self, entry, case: TrailerCase| {
-            let seed = life.seed();
-            let number = life.comparer.trailer(&case, seed).map_err(|difference| (entry, difference))?;
-            count(entry, number);
-            life.require_done(entry, number)
-        };
-        call(self, Entry::WriteTrailer, TrailerCase::Write(file.clone()))?;
+        self.done(Entry::WriteTrailer, TrailerCase::Write(file.clone()), count)?;
         if write_trailer(&mut file).is_ok() {
-            call(self, Entry::CheckTrailer, TrailerCase::Check(file.clone()))?;
+            self.done(Entry::CheckTrailer, TrailerCase::Check(file.clone()), count)?;
         }
         let out = vec![0xEE; text(&file).len()];
-        call(self, Entry::List, TrailerCase::List(ListCase { bytes: file, out }))
+        self.done(Entry::List, TrailerCase::List(ListCase { bytes: file, out }), count)
+    }
+
+    /// Reads the header, and steps from frame to frame up to the ring.
+    fn step_through(&mut self, bytes: Vec<u8>, count: Count) -> Result<(), (Entry, Difference)> {
+        self.done(Entry::ReadHeader, TrailerCase::Header(bytes.clone()), count)?;
+        let Ok(header) = read_header(&bytes) else { return Ok(()) };
+        let mut at = FILE_HEADER as u64;
+        for _ in 0..=header.frames.min(self.reel.frames as usize) {
+            self.done(Entry::NextFrame, TrailerCase::Step(StepCase { bytes: bytes.clone(), at }), count)?;
+            let Ok(frame) = next_frame(&bytes, at) else { return Ok(()) };
+            at = frame.end as u64;
+        }
+        Ok(())
     }
 
     /// A reel that was built in order must be accepted.

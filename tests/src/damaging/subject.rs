@@ -1,4 +1,4 @@
-//! The ten functions behind the boundary: the library's, with slices against guard pages, or what stands in for it.
+//! The twelve functions behind the boundary: the library's, with slices against guard pages, or what stands in for it.
 
 use super::guarded::{lending, Slice};
 use flic_tests::behind;
@@ -9,9 +9,11 @@ use flic_tests::c_functions::*;
 use flic_tests::reels::behind::MODEL as MODEL_REELS;
 use flic_tests::reels::boundary::{self as reels, AddCall, CheckCall, CloseCall, FlicReelAnswer, OpenCall};
 use flic_tests::trailers::behind::MODEL as MODEL_TRAILERS;
-use flic_tests::trailers::boundary::{self as trailers, ListCall, TrailerCall};
+use flic_tests::trailers::boundary::{
+    self as trailers, FlicHeader, FlicSpan, HeaderCall, ListCall, StepCall, TrailerCall,
+};
 
-/// Ten functions that do as the library should.
+/// Twelve functions that do as the library should.
 #[derive(Clone, Copy)]
 pub struct Subject {
     pub reads: Reader,
@@ -26,7 +28,14 @@ pub const LIBRARY: Subject = Subject {
     writes,
     rewrites,
     reels: reels::Subject { reads, checks, opens, adds, closes },
-    trailers: trailers::Subject { checks_reel: checks, checks: checks_trailer, writes: writes_trailer, lists },
+    trailers: trailers::Subject {
+        checks_reel: checks,
+        checks: checks_trailer,
+        writes: writes_trailer,
+        lists,
+        reads_header,
+        steps,
+    },
 };
 
 pub const MODEL: Subject = Subject {
@@ -122,6 +131,15 @@ fn writes_trailer(call: &mut TrailerCall) -> FlicWritten {
 fn lists(call: &mut ListCall) -> FlicWritten {
     let ListCall { bytes, out } = call;
     lending([bytes, out], |[b, o]| unsafe { flic_list(b.pointer, b.length, o.pointer, o.length) })
+}
+
+fn reads_header(call: &mut HeaderCall) -> FlicHeader {
+    lending([&mut call.bytes], |[b]| unsafe { flic_read_header(b.pointer, b.length) })
+}
+
+fn steps(call: &mut StepCall) -> FlicSpan {
+    let StepCall { bytes, at } = call;
+    lending([bytes], |[b]| unsafe { flic_next_frame(b.pointer, b.length, *at) })
 }
 
 /// The byte just outside a slice, on either side.

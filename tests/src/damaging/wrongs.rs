@@ -10,7 +10,9 @@ use flic_tests::model::lent::Lent;
 use flic_tests::reels::behind::TRESPASSERS as REEL_TRESPASSERS;
 use flic_tests::reels::boundary::{self as reels, AddCall, CheckCall, CloseCall, FlicReelAnswer, OpenCall};
 use flic_tests::trailers::behind::TRESPASSERS as TRAILER_TRESPASSERS;
-use flic_tests::trailers::boundary::{self as trailers, ListCall, TrailerCall};
+use flic_tests::trailers::boundary::{
+    self as trailers, FlicHeader, FlicSpan, HeaderCall, ListCall, StepCall, TrailerCall,
+};
 
 /// Something wrong, and the entry points in which the run must see it.
 pub struct Wrong {
@@ -30,7 +32,8 @@ impl Wrong {
 }
 
 const REELS: [Entry; 4] = [Entry::CheckReel, Entry::OpenReel, Entry::AddFrame, Entry::CloseReel];
-const TRAILERS: [Entry; 3] = [Entry::CheckTrailer, Entry::WriteTrailer, Entry::List];
+const TRAILERS: [Entry; 5] =
+    [Entry::CheckTrailer, Entry::WriteTrailer, Entry::List, Entry::ReadHeader, Entry::NextFrame];
 
 /// Everything wrong that a run must see.
 pub fn all() -> Vec<Wrong> {
@@ -136,6 +139,24 @@ fn done_reel<const N: u32>(answer: FlicReelAnswer) -> FlicReelAnswer {
     }
 }
 
+fn headers_past<const N: u32>(call: &mut HeaderCall) -> FlicHeader {
+    let header = (MODEL.trailers.reads_header)(call);
+    if header.number == N {
+        FlicHeader { number: 0, place: 0, ..header }
+    } else {
+        header
+    }
+}
+
+fn steps_past<const N: u32>(call: &mut StepCall) -> FlicSpan {
+    let span = (MODEL.trailers.steps)(call);
+    if span.number == N {
+        FlicSpan { number: 0, place: 0, ..span }
+    } else {
+        span
+    }
+}
+
 /// For each number: the subject of one entry point that leaves that refusal out.
 macro_rules! each_past {
     ($all:ident, $entry:expr, $make:expr, $past:ident, $($number:literal)*) => {
@@ -163,6 +184,8 @@ fn ignoring() -> Vec<Wrong> {
     each_past!(all, Entry::CheckTrailer, with_trailer_checks, trailers_past, 2 4 5 6 14 15 17);
     each_past!(all, Entry::WriteTrailer, with_trailer_writes, trailer_writes_past, 2 3 4 5 6 14 15);
     each_past!(all, Entry::List, with_lists, lists_past, 3);
+    each_past!(all, Entry::ReadHeader, with_headers, headers_past, 2 4 5 6 14);
+    each_past!(all, Entry::NextFrame, with_steps, steps_past, 4 6 15);
     all
 }
 
@@ -194,6 +217,14 @@ fn with_lists(lists: fn(&mut ListCall) -> FlicWritten) -> Subject {
     Subject { trailers: trailers::Subject { lists, ..MODEL.trailers }, ..MODEL }
 }
 
+fn with_headers(reads_header: fn(&mut HeaderCall) -> FlicHeader) -> Subject {
+    Subject { trailers: trailers::Subject { reads_header, ..MODEL.trailers }, ..MODEL }
+}
+
+fn with_steps(steps: fn(&mut StepCall) -> FlicSpan) -> Subject {
+    Subject { trailers: trailers::Subject { steps, ..MODEL.trailers }, ..MODEL }
+}
+
 /// Writes the byte beside a slice that lies against a guard page, on the side where no guard page stands.
 fn write_beside(lent: &mut Lent, after: bool) {
     // SAFETY: the byte on the open side of a lent slice belongs to its stretch.
@@ -213,6 +244,11 @@ fn lists_beside<const AFTER: bool>(call: &mut ListCall) -> FlicWritten {
 fn adds_beside<const AFTER: bool>(call: &mut AddCall) -> FlicReelAnswer {
     write_beside(&mut call.bytes, AFTER);
     (MODEL.reels.adds)(call)
+}
+
+fn steps_beside<const AFTER: bool>(call: &mut StepCall) -> FlicSpan {
+    write_beside(&mut call.bytes, AFTER);
+    (MODEL.trailers.steps)(call)
 }
 
 /// Functions that write where the guard page isn't hit.
@@ -243,6 +279,14 @@ fn beside() -> Vec<Wrong> {
         against(
             Side::After,
             Wrong::of("a byte before a guarded reel", with_adds(adds_beside::<false>), &[Entry::AddFrame]),
+        ),
+        against(
+            Side::Before,
+            Wrong::of("a byte after a guarded reel in a step", with_steps(steps_beside::<true>), &[Entry::NextFrame]),
+        ),
+        against(
+            Side::After,
+            Wrong::of("a byte before a guarded reel in a step", with_steps(steps_beside::<false>), &[Entry::NextFrame]),
         ),
     ]
 }

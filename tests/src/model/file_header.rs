@@ -30,12 +30,32 @@ pub mod field {
     pub const OFRAME2: usize = 84;
 }
 
-/// What a check takes from a header that is accepted.
-pub(super) struct FileHeader {
+/// What is taken from a header that is accepted.
+#[derive(Clone, Copy, Debug, PartialEq, Eq)]
+pub struct FileHeader {
     pub size: usize,
     pub width: usize,
     pub height: usize,
     pub frames: usize,
+    pub speed: u32,
+}
+
+/// Reads a header: the whole-reel check's refusals of it, or what it tells.
+pub fn read_header(bytes: &[u8]) -> Result<FileHeader, Refusal> {
+    read_header_with(Mistake::None, bytes)
+}
+
+/// `read_header` with one mistake in it, or none.
+pub fn read_header_with(mistake: Mistake, bytes: &[u8]) -> Result<FileHeader, Refusal> {
+    let header = accepted(mistake, bytes, &[], &[])?;
+    Ok(match mistake {
+        Mistake::SpeedReadAsWord => FileHeader { speed: header.speed & 0xFFFF, ..header },
+        Mistake::SpeedReadAtOffset18 => FileHeader { speed: size_at(bytes, field::SPEED + 2) as u32, ..header },
+        Mistake::RingCountedAsFrame => FileHeader { frames: header.frames + 1, ..header },
+        Mistake::WidthAsHeight => FileHeader { width: header.height, height: header.width, ..header },
+        Mistake::SizeOfAllBytes => FileHeader { size: bytes.len(), ..header },
+        _ => header,
+    })
 }
 
 /// The header's checks in document 01's order: 4, 5, 6, 4, 2, 14, and 1 for the slices lent with the reel.
@@ -67,7 +87,10 @@ pub(super) fn accepted(
     }
     match checks.iter().find(|(_, passed)| !passed) {
         Some((number, _)) => Err(Refusal::new(*number, 0)),
-        None => Ok(FileHeader { size, width, height, frames: word_at(bytes, field::FRAMES) as usize }),
+        None => {
+            let (frames, speed) = (word_at(bytes, field::FRAMES) as usize, size_at(bytes, field::SPEED) as u32);
+            Ok(FileHeader { size, width, height, frames, speed })
+        }
     }
 }
 
@@ -152,4 +175,39 @@ pub(super) fn close(header: &mut [u8], closing: &Closing) {
 /// The mistake of an add that counts in the header.
 pub(super) fn count_frames(header: &mut [u8], frames: u64) {
     put_word(header, field::FRAMES, frames as u16);
+}
+
+#[cfg(test)]
+mod tests {
+    use super::*;
+    use crate::reels::examples::{blank_reel, SPEED};
+
+    fn number(bytes: &[u8]) -> Result<(), (u32, u64)> {
+        read_header(bytes).map(|_| ()).map_err(|refusal| (refusal.number, refusal.place))
+    }
+
+    #[test]
+    fn what_a_header_tells() {
+        let mut bytes = blank_reel();
+        let told = FileHeader { size: 160, width: 1, height: 1, frames: 1, speed: SPEED };
+        assert_eq!(read_header(&bytes), Ok(told));
+        bytes[8..12].copy_from_slice(&[0x40, 1, 200, 0]);
+        bytes[16..20].copy_from_slice(&[4, 3, 2, 1]);
+        bytes.extend([7; 9]);
+        assert_eq!(read_header(&bytes), Ok(FileHeader { width: 320, height: 200, speed: 0x0102_0304, ..told }));
+    }
+
+    #[test]
+    fn refusals_in_order() {
+        let whole = blank_reel();
+        for length in 0..whole.len() {
+            assert_eq!(number(&whole[..length]), Err((4, 0)), "length {length}");
+        }
+        let mut bytes = whole;
+        for (at, value, refusal) in [(14, 2, 14), (8, 0, 2), (0, 161, 4), (0, 127, 6), (4, 0, 5)] {
+            bytes[at] = value;
+            assert_eq!(number(&bytes), Err((refusal, 0)), "byte {at}");
+        }
+        assert_eq!(number(&bytes[..127]), Err((4, 0)));
+    }
 }

@@ -11,7 +11,7 @@ mod playing;
 pub mod reel;
 pub mod reel_mistakes;
 pub mod rng;
-mod top_level;
+pub mod top_level;
 pub mod trailer;
 mod walk;
 

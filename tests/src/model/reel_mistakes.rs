@@ -14,8 +14,8 @@ macro_rules! mistakes {
 }
 
 mistakes! {
-    /// What every walk through a reel can do wrong: file header, top-level chunks.
-    WALK_MISTAKES {
+    /// What every call that reads a file header can do wrong.
+    HEADER_MISTAKES {
         SizeFieldBeforeMagic,
         FlagsBeforeSizeField,
         FlagsBeforePictureSize,
@@ -23,14 +23,44 @@ mistakes! {
         FlagsAsBits,
         HeaderOf4001Frames,
         HeaderOfNoFrames,
-        ChunksPastSizeField,
-        StartsAtOframe1,
+    }
+
+    /// What every step from one top-level chunk to the next can do wrong.
+    CHUNK_MISTAKES {
         ShortFrameIs15,
         MissingFrameAtPlace0,
         FrameSizeBeforeLength,
         PrefixOf16Bytes,
         OtherChunksRefused,
+    }
+
+    /// What every walk through a whole reel can do wrong besides.
+    WALK_MISTAKES {
+        ChunksPastSizeField,
+        StartsAtOframe1,
         AfterRingChecked,
+    }
+
+    /// What the reading of a header can do wrong besides: what it tells.
+    READ_HEADER_MISTAKES {
+        SpeedReadAsWord,
+        SpeedReadAtOffset18,
+        RingCountedAsFrame,
+        WidthAsHeight,
+        SizeOfAllBytes,
+    }
+
+    /// What the step to the next frame can do wrong besides: where it begins, offsets past the bytes, what it tells.
+    NEXT_FRAME_MISTAKES {
+        StepNotBefore128,
+        StepFromNextChunk,
+        StepToAnyChunk,
+        OffsetOf32Bits,
+        OffsetPastBytesIs4,
+        OffsetPastBytesAtEnd,
+        PlaceOfFirstChunk,
+        SpanWithoutHeader,
+        SpanOfLength,
     }
 
     /// What a check, an open, an add or a close can do wrong besides: header, frames, ring, pairs; open; add and close;

@@ -6,10 +6,52 @@ use super::reel_mistakes::Mistake;
 use super::{number, Refusal, CHUNK_HEADER, FRAME_HEADER, FRAME_TYPE};
 
 /// Where a chunk stands.
-#[derive(Clone, Copy)]
-pub(super) struct Span {
+#[derive(Clone, Copy, Debug, PartialEq, Eq)]
+pub struct Span {
     pub start: usize,
     pub end: usize,
+}
+
+/// The next frame chunk from an offset on, where `bytes` are a reel up to its size: other chunks are stepped over, with
+/// the whole-reel check's refusals on the way.
+pub fn next_frame(bytes: &[u8], at: u64) -> Result<Span, Refusal> {
+    next_frame_with(Mistake::None, bytes, at)
+}
+
+/// `next_frame` with one mistake in it, or none.
+pub fn next_frame_with(mistake: Mistake, bytes: &[u8], at: u64) -> Result<Span, Refusal> {
+    let at = match mistake {
+        Mistake::StepNotBefore128 => at.max(FILE_HEADER as u64),
+        Mistake::OffsetOf32Bits => at & u64::from(u32::MAX),
+        _ => at,
+    };
+    if at > bytes.len() as u64 {
+        return Err(match mistake {
+            Mistake::OffsetPastBytesIs4 => Refusal { number: number::CUT_SHORT, place: at },
+            Mistake::OffsetPastBytesAtEnd => Refusal::new(number::FRAME_MISSING, bytes.len()),
+            Mistake::MissingFrameAtPlace0 => Refusal::new(number::FRAME_MISSING, 0),
+            _ => Refusal { number: number::FRAME_MISSING, place: at },
+        });
+    }
+    let top = TopLevel { mistake, bytes, end: bytes.len() };
+    let mut place = at as usize;
+    if mistake == Mistake::StepFromNextChunk {
+        place = top.chunk_at(place)?.end;
+    }
+    loop {
+        let chunk = match top.chunk_at(place) {
+            Err(refusal) if mistake == Mistake::PlaceOfFirstChunk => return Err(Refusal { place: at, ..refusal }),
+            chunk => chunk?,
+        };
+        if top.is_frame(place) || mistake == Mistake::StepToAnyChunk {
+            return Ok(match mistake {
+                Mistake::SpanWithoutHeader => Span { start: chunk.start + FRAME_HEADER, ..chunk },
+                Mistake::SpanOfLength => Span { end: chunk.end - chunk.start, ..chunk },
+                _ => chunk,
+            });
+        }
+        place = chunk.end;
+    }
 }
 
 /// What a file header that was accepted encloses.
@@ -81,5 +123,49 @@ impl<'a> TopLevel<'a> {
             self.chunk_at(ring.end)?;
         }
         Ok(())
+    }
+}
+
+#[cfg(test)]
+mod tests {
+    use super::*;
+    use crate::reels::examples::blank_reel;
+
+    /// Where the next frame stands, or the number and place of the refusal.
+    fn found(bytes: &[u8], at: u64) -> Result<(usize, usize), (u32, u64)> {
+        next_frame(bytes, at).map(|span| (span.start, span.end)).map_err(|refusal| (refusal.number, refusal.place))
+    }
+
+    #[test]
+    fn the_frames_of_the_blank_reel_of_document_01() {
+        let reel = blank_reel();
+        assert_eq!((found(&reel, 128), found(&reel, 144)), (Ok((128, 144)), Ok((144, 160))));
+        for at in [155, 160, 161, 1 << 32, u64::MAX] {
+            assert_eq!(found(&reel, at), Err((15, at)), "offset {at}");
+        }
+    }
+
+    #[test]
+    fn other_chunks_are_stepped_over() {
+        let prefix = [7, 0, 0, 0, 0, 0xF1, 9];
+        let frame = [17, 0, 0, 0, 0xFA, 0xF1, 0, 0, 0, 0, 0, 0, 0, 0, 0, 0, 5];
+        let bytes = [&prefix[..], &prefix, &frame, &prefix].concat();
+        assert_eq!((found(&bytes, 0), found(&bytes, 7), found(&bytes, 14)), (Ok((14, 31)), Ok((14, 31)), Ok((14, 31))));
+        assert_eq!(found(&bytes, 31), Err((15, 38)));
+    }
+
+    #[test]
+    fn headers_in_order() {
+        let of = |kind: u16, size: u32, length: usize| {
+            let mut bytes = [&[6, 0, 0, 0, 1, 0], &size.to_le_bytes()[..], &kind.to_le_bytes(), &[0; 20]].concat();
+            bytes.truncate(6 + length);
+            found(&bytes, 0)
+        };
+        let refused = |number| Err((number, 6));
+        assert_eq!((of(FRAME_TYPE, 3, 5), of(FRAME_TYPE, 3, 6)), (refused(15), refused(4)));
+        assert_eq!((of(FRAME_TYPE, 15, 15), of(FRAME_TYPE, 15, 16)), (refused(4), refused(6)));
+        assert_eq!((of(FRAME_TYPE, 17, 16), of(FRAME_TYPE, 16, 16)), (refused(4), Ok((6, 22))));
+        assert_eq!((of(0, 5, 6), of(0, 7, 6), of(0, u32::MAX, 20)), (refused(6), refused(4), refused(4)));
+        assert_eq!(of(0, 6, 11), Err((15, 12)));
     }
 }

@@ -4,12 +4,12 @@ use super::behind::{MODEL, TRESPASSERS};
 use super::boundary::Subject;
 use super::compare::comparing;
 use super::families::{FAMILIES, SMALL};
-use crate::model::reel_mistakes::{REEL_MISTAKES, WALK_MISTAKES};
+use crate::model::reel_mistakes::{CHUNK_MISTAKES, HEADER_MISTAKES, REEL_MISTAKES, WALK_MISTAKES};
 use crate::wrongs::{see, wrongs, Wrong};
 
 /// Everything wrong, and after how many inputs the families showed it.
 pub fn seen_wrongs(base: u64) -> Vec<Wrong<Subject>> {
-    let mistakes = [WALK_MISTAKES, REEL_MISTAKES].concat();
+    let mistakes = [HEADER_MISTAKES, CHUNK_MISTAKES, WALK_MISTAKES, REEL_MISTAKES].concat();
     let mut wrongs = wrongs(MODEL, &mistakes, &TRESPASSERS);
     see(&mut wrongs, &FAMILIES[..SMALL], base, |wrong, case, seed| {
         comparing(&wrong.subject, wrong.mistake, case, seed).is_err()

@@ -1,4 +1,4 @@
-//! What one call on a trailer or for a listing is handed.
+//! What one call on a trailer, for a listing or on the way through a reel is handed.
 
 use crate::reels::cases::CheckCase;
 
@@ -9,6 +9,13 @@ pub struct ListCase {
     pub out: Vec<u8>,
 }
 
+/// What one step to the next frame is handed.
+#[derive(Clone, Debug, PartialEq, Eq)]
+pub struct StepCase {
+    pub bytes: Vec<u8>,
+    pub at: u64,
+}
+
 #[derive(Clone, Debug, PartialEq, Eq)]
 pub enum TrailerCase {
     /// A file whose trailer is checked.
@@ -16,6 +23,9 @@ pub enum TrailerCase {
     /// A file into which a trailer is written.
     Write(Vec<u8>),
     List(ListCase),
+    /// A file whose header is read.
+    Header(Vec<u8>),
+    Step(StepCase),
     /// A whole-reel check before and after a trailer is written.
     Around(CheckCase),
 }

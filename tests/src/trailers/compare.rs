@@ -1,13 +1,16 @@
-//! Compares one call on a trailer or for a listing with the model: the answer, every lent byte, and their guards.
+//! Compares one call on a trailer, for a listing or on the way through a reel with the model: the answer, every lent
+//! byte, and their guards.
 
-use super::boundary::{ListCall, Subject, TrailerCall};
-use super::cases::{ListCase, TrailerCase};
+use super::boundary::{FlicHeader, FlicSpan, HeaderCall, ListCall, StepCall, Subject, TrailerCall};
+use super::cases::{ListCase, StepCase, TrailerCase};
 use crate::boundary::{FlicAnswer, FlicWritten, LentState};
 use crate::compare::{
     answer_difference, check_answer, check_lent, check_place, check_state, written_difference, Difference,
 };
+use crate::model::file_header::read_header_with;
 use crate::model::listing::list_with;
 use crate::model::reel_mistakes::Mistake;
+use crate::model::top_level::next_frame_with;
 use crate::model::trailer::{check_trailer_with, write_trailer_with};
 use crate::reels::boundary::CheckCall;
 use crate::reels::cases::CheckCase;
@@ -32,6 +35,8 @@ pub fn comparing(subject: &Subject, mistake: Mistake, case: &TrailerCase, seed: 
         TrailerCase::Check(bytes) => checking(subject, mistake, bytes, seed),
         TrailerCase::Write(bytes) => writing(subject, mistake, bytes, seed),
         TrailerCase::List(case) => listing(subject, mistake, case, seed),
+        TrailerCase::Header(bytes) => reading_header(subject, mistake, bytes, seed),
+        TrailerCase::Step(case) => stepping(subject, mistake, case, seed),
         TrailerCase::Around(case) => around(subject, case, seed),
     }
 }
@@ -72,6 +77,26 @@ fn listing(subject: &Subject, mistake: Mistake, case: &ListCase, seed: u64) -> R
         .and_then(|()| check_lent("the file", &call.bytes, &case.bytes))
         .map_err(|what| written_difference(found, wanted, what))?;
     Ok(Agreed { number: found.number, listing: (found.number == 0).then_some(text) })
+}
+
+fn reading_header(subject: &Subject, mistake: Mistake, bytes: &[u8], seed: u64) -> Result<Agreed, Difference> {
+    let mut call = HeaderCall::lending(bytes, seed);
+    let found = (subject.reads_header)(&mut call);
+    let wanted = FlicHeader::of(read_header_with(mistake, bytes));
+    check_answer(found, wanted)
+        .and_then(|()| check_lent("the file", &call.bytes, bytes))
+        .map_err(|what| Difference { library: format!("{found:?}"), model: format!("{wanted:?}"), what })?;
+    Ok(Agreed::on(found.number))
+}
+
+fn stepping(subject: &Subject, mistake: Mistake, case: &StepCase, seed: u64) -> Result<Agreed, Difference> {
+    let mut call = StepCall::lending(case, seed);
+    let found = (subject.steps)(&mut call);
+    let wanted = FlicSpan::of(next_frame_with(mistake, &case.bytes, case.at));
+    check_answer(found, wanted)
+        .and_then(|()| check_lent("the reel", &call.bytes, &case.bytes))
+        .map_err(|what| Difference { library: format!("{found:?}"), model: format!("{wanted:?}"), what })?;
+    Ok(Agreed::on(found.number))
 }
 
 /// The text that an answer says it wrote, so far as the output reaches.

@@ -1,11 +1,11 @@
-//! The families of the trailer and listing tests; a family and a seed give the same inputs again.
+//! The families of the tests of trailers, listings and steps; a family and a seed give the same inputs again.
 
 use super::cases::TrailerCase;
-use super::{around, changed, limits, nested, walked, written};
+use super::{around, changed, limits, nested, steps, walked, written};
 use crate::cases::Family;
 
 /// The families that the self-check goes through, then those of large reels.
-pub const FAMILIES: [Family<TrailerCase>; 24] = [
+pub const FAMILIES: [Family<TrailerCase>; 26] = [
     Family { name: "ignored", batches: 4_000, emit: written::ignored },
     Family { name: "rooms", batches: 60, emit: written::rooms },
     Family { name: "old-trailers", batches: 1_000, emit: written::old_trailers },
@@ -20,6 +20,8 @@ pub const FAMILIES: [Family<TrailerCase>; 24] = [
     Family { name: "left-over", batches: 12, emit: walked::left_over },
     Family { name: "damaged", batches: 10_000, emit: walked::damaged },
     Family { name: "chance", batches: 2_000, emit: walked::chance },
+    Family { name: "offsets", batches: 60, emit: steps::offsets },
+    Family { name: "cut-reels", batches: 15, emit: steps::cut_reels },
     Family { name: "around", batches: 3_000, emit: around::around },
     Family { name: "trees", batches: 150_000, emit: nested::trees },
     Family { name: "tree-sizes", batches: 15_000, emit: nested::tree_sizes },
@@ -33,7 +35,7 @@ pub const FAMILIES: [Family<TrailerCase>; 24] = [
 ];
 
 /// How many of the families are of small reels.
-pub const SMALL: usize = 21;
+pub const SMALL: usize = 23;
 
 #[cfg(test)]
 mod tests {

@@ -1,10 +1,11 @@
 //! What the families of trailers and listings share: calls on bytes that are at hand, and reels with their trailers.
 
-use super::cases::{ListCase, Sink, TrailerCase};
+use super::cases::{ListCase, Sink, StepCase, TrailerCase};
 use crate::model::decode::word_at;
-use crate::model::file_header::field;
+use crate::model::file_header::{field, read_header, FILE_HEADER};
 use crate::model::listing::text;
 use crate::model::rng::Rng;
+use crate::model::top_level::next_frame;
 use crate::model::trailer::write_trailer;
 use crate::reels::cases::{CheckCase, ReelCase};
 
@@ -27,11 +28,32 @@ pub fn list_of(rng: &mut Rng, bytes: Vec<u8>) -> TrailerCase {
     TrailerCase::List(ListCase { bytes, out: rng.bytes(room) })
 }
 
-/// Each of the three calls on the same bytes.
+/// Each of the calls on the same bytes.
 pub fn each_call(rng: &mut Rng, bytes: Vec<u8>, sink: Sink) {
     sink(TrailerCase::Check(bytes.clone()));
     sink(TrailerCase::Write(bytes.clone()));
+    sink(TrailerCase::Header(bytes.clone()));
+    steps_of(&bytes, sink);
     sink(list_of(rng, bytes));
+}
+
+/// How many steps are made from frame to frame.
+const MOST_STEPS: usize = 6;
+
+/// Steps from frame to frame up to the first refusal, and one from any offset, which the length decides; where the
+/// header is refused, through all the bytes.
+fn steps_of(bytes: &[u8], sink: Sink) {
+    let reel = &bytes[..read_header(bytes).map_or(bytes.len(), |header| header.size)];
+    let mut step = |at: usize| sink(TrailerCase::Step(StepCase { bytes: reel.to_vec(), at: at as u64 }));
+    step(Rng::new(reel.len() as u64).below(reel.len() + 8));
+    let mut at = FILE_HEADER;
+    for _ in 0..MOST_STEPS {
+        step(at);
+        match next_frame(reel, at as u64) {
+            Ok(frame) => at = frame.end,
+            Err(_) => return,
+        }
+    }
 }
 
 /// A family of the reel tests.

@@ -1,4 +1,4 @@
-//! What a run of the trailer and listing tests has met, call by call, and line by line of the listings.
+//! What a run of the tests of trailers, listings and steps has met, call by call, and line by line of the listings.
 
 use super::cases::TrailerCase;
 use super::compare::Agreed;
@@ -9,6 +9,8 @@ use crate::tally::Tally;
 const CHECK_NUMBERS: [u32; 8] = [0, 2, 4, 5, 6, 14, 15, 17];
 const WRITE_NUMBERS: [u32; 8] = [0, 2, 3, 4, 5, 6, 14, 15];
 const LIST_NUMBERS: [u32; 2] = [0, 3];
+const HEADER_NUMBERS: [u32; 6] = [0, 2, 4, 5, 6, 14];
+const STEP_NUMBERS: [u32; 4] = [0, 4, 6, 15];
 /// The numbers that the line `refused N PLACE` must have told, 0 standing for a listing that ends with `ok`.
 const LINE_NUMBERS: [u32; 8] = [0, 2, 3, 4, 5, 6, 14, 15];
 /// Answers of a whole-reel check before and after a trailer was written: done, damaged in several ways, astray.
@@ -18,6 +20,8 @@ pub struct Met {
     checks: Tally,
     writes: Tally,
     lists: Tally,
+    headers: Tally,
+    steps: Tally,
     arounds: Tally,
     /// Whole listings, by the number of their only line where that is a refusal.
     listings: Tally,
@@ -32,6 +36,8 @@ impl Met {
             checks: tally("check of a trailer", "files"),
             writes: tally("writing of a trailer", "files"),
             lists: tally("list", "calls"),
+            headers: tally("reading of a header", "files"),
+            steps: tally("step to the next frame", "steps"),
             arounds: tally("check of a reel before and after its trailer", "reels"),
             listings: tally("listing", "texts"),
             depths: [0; MOST_DEPTH + 1],
@@ -43,6 +49,8 @@ impl Met {
             TrailerCase::Check(_) => &mut self.checks,
             TrailerCase::Write(_) => &mut self.writes,
             TrailerCase::List(_) => &mut self.lists,
+            TrailerCase::Header(_) => &mut self.headers,
+            TrailerCase::Step(_) => &mut self.steps,
             TrailerCase::Around(_) => &mut self.arounds,
         };
         tally.count(agreed.number);
@@ -64,8 +72,8 @@ impl Met {
         }
     }
 
-    fn tallies(&self) -> [&Tally; 4] {
-        [&self.checks, &self.writes, &self.lists, &self.arounds]
+    fn tallies(&self) -> [&Tally; 6] {
+        [&self.checks, &self.writes, &self.lists, &self.headers, &self.steps, &self.arounds]
     }
 
     pub fn calls(&self) -> u64 {
@@ -87,6 +95,8 @@ impl Met {
             ("check", self.checks.missing_numbers(CHECK_NUMBERS)),
             ("write", self.writes.missing_numbers(WRITE_NUMBERS)),
             ("list", self.lists.missing_numbers(LIST_NUMBERS)),
+            ("header", self.headers.missing_numbers(HEADER_NUMBERS)),
+            ("step", self.steps.missing_numbers(STEP_NUMBERS)),
             ("listing", self.listings.missing_numbers(LINE_NUMBERS)),
             ("check of a reel", self.arounds.missing_numbers(AROUND_NUMBERS)),
             ("depth", depths),

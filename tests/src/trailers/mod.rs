@@ -1,4 +1,5 @@
-//! The tests of trailers and listings: what their calls lend, seeded inputs, and the comparison with the model.
+//! The tests of trailers, listings and steps through a reel: what their calls lend, seeded inputs, and the comparison
+//! with the model.
 
 pub mod around;
 pub mod behind;
@@ -15,5 +16,6 @@ pub mod met;
 pub mod nest;
 pub mod nested;
 pub mod self_check;
+pub mod steps;
 pub mod walked;
 pub mod written;

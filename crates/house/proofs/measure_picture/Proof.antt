@@ -1,14 +1,14 @@
--- `measure_picture` meets its contract: nothing is planned for equal pictures; else the delta is measured. Where the rows have more edges than it has bytes it is shorter than the full chunk (`full-edges`); where not, that was measured too, and the test is the definition's.
-use mathlib.Core.Logic.{⊎-elim}
-use mathlib.Core.Path.{refl, sym, _∙_}
-use Prim.Native.Nat.{_+_, _<_}
-use native.Mathlib.Omega.{arith}
-use borrow.Author.Needs.{needs}
-use borrow.Author.Tests.{ltb-true, not-false}
-use lib.ListN.{length}
-use Rattle.fulls.specs.Full.{fullChunk}
-use Rattle.fulls.proofs.Edges.{full-edges}
+-- `measure_picture` meets its contract: nothing is planned for equal pictures; else the delta is sized. Where the rows have more edges than it has bytes it is shorter than the full chunk (`full-edges`); where not, that was measured too, and the test is the definition's.
 use Rattle.house.proofs.Laws.{picture-same, picture-delta, picture-full}
+use Rattle.fulls.proofs.Edges.{full-edges}
+use Rattle.fulls.specs.Full.{fullChunk}
+use lib.ListN.{length}
+use borrow.Author.Tests.{ltb-true, not-false}
+use native.Mathlib.Omega.{arith}
+use Prim.Native.Nat.{_+_, _<_}
+use mathlib.Core.Path.{refl, sym, _∙_}
+use mathlib.Core.Logic.{⊎-elim}
+use borrow.Author.Needs.{needs}
 use Rattle.house.proofs.measure_picture.Statement.{statement}
 use Rattle.house.proofs.measure_picture.Tie as tie
 
@@ -16,10 +16,10 @@ same-bytes-requires : tie.Need-same-bytes-requires
 same-bytes-requires c κs = search needs
 
 returns : tie.Need-returns
-returns c = picture-same (c .before .before .before .before .args .width) (c .before .before .before .before .args .height) (c .before .before .before .before .args .previous .now) (c .before .before .before .before .args .next .now) (sym (c .before .same-bytes .ensures) ∙ c .if1 .taken)
+returns c = let a = c .before .before .before .before .args in picture-same (a .width) (a .height) (a .previous .now) (a .next .now) (sym (c .before .same-bytes .ensures) ∙ c .if1 .taken)
 
-measure-delta-requires : tie.Need-measure-delta-requires
-measure-delta-requires c κs = search needs
+delta-size-requires : tie.Need-delta-size-requires
+delta-size-requires c κs = search needs
 
 more-edges-requires : tie.Need-more-edges-requires
 more-edges-requires c κs = search needs
@@ -32,25 +32,25 @@ add-if3 c = search needs
 
 returns-2 : tie.Need-returns-2
 returns-2 c =
-    let a = c .before .before .before .before .before .before .before .before .before .before .before .args in
-    let m = c .before .before .before .before .before .before .measure-delta in
-    let f = c .before .before .before .measure-full in
-    picture-full (a .width) (a .height) (a .previous .now) (a .next .now) (sym (c .before .before .before .before .before .before .before .before .same-bytes .ensures) ∙ c .before .before .before .before .before .before .before .if1 .left)
-    (f .result .kind) (m .result .size) (f .result .size) (f .ensures .0) (m .ensures .2) (f .ensures .1) (c .if3 .taken)
+    let a = c .before .before .before .before .before .before .before .before .before .before .args in
+    let m = c .before .before .before .before .before .delta-size in
+    let f = c .before .before .measure-full in
+    picture-full (a .width) (a .height) (a .previous .now) (a .next .now) (sym (c .before .before .before .before .before .before .before .same-bytes .ensures) ∙ c .before .before .before .before .before .before .if1 .left)
+    (f .result .kind) (m .result) (f .result .size) (f .ensures .0) (m .ensures .0) (f .ensures .1) (c .if3 .taken)
 
 add-t12 : tie.Need-add-t12
 add-t12 c = search needs
 
 returns-3 : tie.Need-returns-3
 returns-3 c =
-    let a = c .before .before .before .before .before .before .before .before .args in
-    let m = c .before .before .before .measure-delta in
-    picture-delta (a .width) (a .height) (a .previous .now) (a .next .now) (sym (c .before .before .before .before .before .same-bytes .ensures) ∙ c .before .before .before .before .if1 .left)
-    (m .result .count) (m .result .size) _ (m .ensures .0) (m .ensures .1) (m .ensures .2) refl
-    (⊎-elim {C = 6 + m .result .size < length (fullChunk (a .width) (a .height) (a .next .now))}
-    (λ w. omega (arith, w .1 .ensures .1, w .4 .left))
-    (λ w. full-edges (a .width) (a .height) (a .next .now) (m .result .size) (ltb-true _ _ (sym (c .before .before .more-edges .ensures) ∙ not-false _ (w .left))))
-    (c .before .if2 .came))
+    let a = c .before .before .before .before .before .before .before .args in
+    let m = c .before .before .delta-size in
+    picture-delta (a .width) (a .height) (a .previous .now) (a .next .now) (sym (c .before .before .before .before .same-bytes .ensures) ∙ c .before .before .before .if1 .left)
+    (m .result) _ (m .ensures .0) refl
+    (⊎-elim {C = 6 + m .result < length (fullChunk (a .width) (a .height) (a .next .now))}
+    (λ w. omega (arith, w .1 .ensures .1, w .3 .left))
+    (λ w. full-edges (a .width) (a .height) (a .next .now) (m .result) (ltb-true _ _ (sym (c .before .more-edges .ensures) ∙ not-false _ (w .left))))
+    (c .if2 .came))
 
 pub measure-picture-spec : {M : Type 1} → statement M
 measure-picture-spec =
@@ -58,7 +58,7 @@ measure-picture-spec =
     (tie.spec
     same-bytes-requires
     returns
-    measure-delta-requires
+    delta-size-requires
     more-edges-requires
     measure-full-requires
     add-if3

@@ -1,31 +1,31 @@
--- `write_colours` meets its contract: a plan of no chunk stands for equal palettes; any other has the count and the size of the chunk written.
-use mathlib.Core.List.{[]}
-use mathlib.Core.Path.{sym}
-use native.Mathlib.Omega.{arith}
-use borrow.Author.Needs.{needs}
-use Rattle.words.specs.Words.{chunk}
-use Rattle.words.proofs.Laws.{put-nil, put-header-first}
-use Rattle.answer.specs.Format.{FLI-COLOR256}
-use Rattle.colours.specs.Colours.{colourBody}
+-- `write_colours` meets its contract: a plan of no chunk stands for equal palettes; any other has the size of the chunk written.
 use Rattle.house.proofs.Laws.{put-as, colour-none, coloured}
+use Rattle.house_colour.specs.Colours.{colourBody}
+use Rattle.answer.specs.Format.{FLI-COLOR256}
+use Rattle.words.proofs.Laws.{put-nil, put-header-first}
+use Rattle.words.specs.Words.{chunk}
+use native.Mathlib.Omega.{arith}
+use mathlib.Core.Path.{sym}
+use mathlib.Core.List.{[]}
+use borrow.Author.Needs.{needs}
 use Rattle.house.proofs.write_colours.Statement.{statement}
 use Rattle.house.proofs.write_colours.Tie as tie
 
 returns : tie.Need-returns
 returns c =
     let a = c .before .before .before .before .before .args in
-    put-as (a .out .now) (a .out .now) [] _ (a .at) (colour-none (c .before .before .before .before .before .pre .1) (c .if1 .taken)) (sym (put-nil (a .out .now) (a .at)))
+    put-as (a .out .now) (a .out .now) [] _ (a .at) (colour-none (a .previous .now) (a .next .now) (c .before .before .before .before .before .pre .1) (c .if1 .taken)) (sym (put-nil (a .out .now) (a .at)))
 
 put-header-requires : tie.Need-put-header-requires
-put-header-requires c κs = (omega (arith, coloured (c .before .before .before .before .before .before .pre .1) (c .before .if1 .left) .size), omega arith)
+put-header-requires c κs = let a = c .before .before .before .before .before .before .args in (omega (arith, coloured (a .previous .now) (a .next .now) (c .before .before .before .before .before .before .pre .1) (c .before .if1 .left) .size), omega arith)
 
 add-write-colour : tie.Need-add-write-colour
 add-write-colour c = search needs
 
 write-colour-requires : tie.Need-write-colour-requires
 write-colour-requires c κs =
-    let k = coloured (c .before .before .before .before .before .before .before .before .before .before .pre .1) (c .before .before .before .before .before .if1 .left) in
-    (c .before .before .before .before .before .before .before .before .before .before .pre .0 .previous, c .before .before .before .before .before .before .before .before .before .before .pre .0 .next, c .before .before .before .before .before .before .before .before .before .before .pre .1 .few, k .count, omega (arith, k .size))
+    let a = c .before .before .before .before .before .before .before .before .before .before .args in
+    (c .before .before .before .before .before .before .before .before .before .before .pre .0 .previous, c .before .before .before .before .before .before .before .before .before .before .pre .0 .next, omega (arith, coloured (a .previous .now) (a .next .now) (c .before .before .before .before .before .before .before .before .before .before .pre .1) (c .before .before .before .before .before .if1 .left) .size))
 
 same-length : tie.Need-same-length
 same-length c = search needs
@@ -33,7 +33,7 @@ same-length c = search needs
 returns-2 : tie.Need-returns-2
 returns-2 c =
     let a = c .before .before .before .before .before .before .before .before .before .before .before .before .before .args in
-    let k = coloured (c .before .before .before .before .before .before .before .before .before .before .before .before .before .pre .1) (c .before .before .before .before .before .before .before .before .if1 .left) in
+    let k = coloured (a .previous .now) (a .next .now) (c .before .before .before .before .before .before .before .before .before .before .before .before .before .pre .1) (c .before .before .before .before .before .before .before .before .if1 .left) in
     let header = c .before .before .before .before .before .before .put-header in
     let body = c .before .before .write-colour in
     put-as (a .out .now) (body .last .0) (chunk FLI-COLOR256 (colourBody (a .previous .now) (a .next .now))) _ (a .at) (k .bytes)

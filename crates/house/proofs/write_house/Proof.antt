@@ -1,7 +1,7 @@
 -- `write_house` meets its contract: the plans' sizes make up the frame's, and its three parts are stored one after the other.
+use Rattle.house.proofs.Laws.{colour-counted, picture-counted, house-none, house-stored}
 use native.Mathlib.Omega.{arith}
 use borrow.Author.Needs.{needs}
-use Rattle.house.proofs.Laws.{colour-counted, picture-counted, house-none, house-stored}
 use Rattle.house.proofs.write_house.Statement.{statement}
 use Rattle.house.proofs.write_house.Tie as tie
 
@@ -12,62 +12,58 @@ measure-picture-requires : tie.Need-measure-picture-requires
 measure-picture-requires c κs = search needs
 
 add-size : tie.Need-add-size
-add-size c = let k = colour-counted (c .before .before .measure-colours .ensures) (c .before .before .before .before .before .before .before .before .pre .1) in omega (arith, k .short)
+add-size c = let a = c .before .before .before .before .before .before .before .before .args in omega (arith, colour-counted (a .previous-palette .now) (a .next-palette .now) (c .before .before .measure-colours .ensures) (c .before .before .before .before .before .before .before .before .pre .1) .short)
 
 add-size-2 : tie.Need-add-size-2
 add-size-2 c =
-    let s = c .before .before .before .before .before .before .before .before .before .pre in
-    let k = colour-counted (c .before .before .before .measure-colours .ensures) (s .1) in
-    let l = picture-counted (c .before .before .measure-picture .ensures) (s .0) in
+    let a = c .before .before .before .before .before .before .before .before .before .args in
+    let k = colour-counted (a .previous-palette .now) (a .next-palette .now) (c .before .before .before .measure-colours .ensures) (c .before .before .before .before .before .before .before .before .before .pre .1) in
+    let l = picture-counted (a .width) (a .height) (a .previous-picture .now) (a .next-picture .now) (c .before .before .measure-picture .ensures) (c .before .before .before .before .before .before .before .before .before .pre .0) in
     omega (arith, k .short, l .short)
 
 returns : tie.Need-returns
 returns c =
-    let s = c .before .before .before .before .before .before .before .before .before .before .pre in
-    house-none (s .1) (s .0) (c .before .before .before .before .measure-colours .ensures) (c .before .before .before .measure-picture .ensures) (c .before .before .before .before .before .before .before .before .before .before .args .out .now) (c .if1 .taken)
+    let a = c .before .before .before .before .before .before .before .before .before .before .args in
+    house-none (a .width) (a .height) (a .previous-picture .now) (a .previous-palette .now) (a .next-picture .now) (a .next-palette .now) (c .before .before .before .before .before .before .before .before .before .before .pre .1) (c .before .before .before .before .before .before .before .before .before .before .pre .0) (c .before .before .before .before .measure-colours .ensures) (c .before .before .before .measure-picture .ensures) (a .out .now) (c .if1 .taken)
 
 add-put-frame-header : tie.Need-add-put-frame-header
 add-put-frame-header c =
-    let s = c .before .before .before .before .before .before .before .before .before .before .before .before .before .pre in
-    let k = colour-counted (c .before .before .before .before .before .before .before .measure-colours .ensures) (s .1) in
-    let l = picture-counted (c .before .before .before .before .before .before .measure-picture .ensures) (s .0) in
+    let a = c .before .before .before .before .before .before .before .before .before .before .before .before .before .args in
+    let k = colour-counted (a .previous-palette .now) (a .next-palette .now) (c .before .before .before .before .before .before .before .measure-colours .ensures) (c .before .before .before .before .before .before .before .before .before .before .before .before .before .pre .1) in
+    let l = picture-counted (a .width) (a .height) (a .previous-picture .now) (a .next-picture .now) (c .before .before .before .before .before .before .measure-picture .ensures) (c .before .before .before .before .before .before .before .before .before .before .before .before .before .pre .0) in
     omega (arith, k .one, l .one)
 
 put-frame-header-requires : tie.Need-put-frame-header-requires
 put-frame-header-requires c κs =
-    let s = c .before .before .before .before .before .before .before .before .before .before .before .before .before .pre in
-    let k = colour-counted (c .before .before .before .before .before .before .before .measure-colours .ensures) (s .1) in
-    let l = picture-counted (c .before .before .before .before .before .before .measure-picture .ensures) (s .0) in
+    let a = c .before .before .before .before .before .before .before .before .before .before .before .before .before .args in
+    let k = colour-counted (a .previous-palette .now) (a .next-palette .now) (c .before .before .before .before .before .before .before .measure-colours .ensures) (c .before .before .before .before .before .before .before .before .before .before .before .before .before .pre .1) in
+    let l = picture-counted (a .width) (a .height) (a .previous-picture .now) (a .next-picture .now) (c .before .before .before .before .before .before .measure-picture .ensures) (c .before .before .before .before .before .before .before .before .before .before .before .before .before .pre .0) in
     (omega (arith, c .before .before .before .if1 .left), omega (arith, k .one, l .one))
 
 add-at : tie.Need-add-at
 add-at c =
-    let s = c .before .before .before .before .before .before .before .before .before .before .before .before .before .before .before .before .before .pre in
-    let k = colour-counted (c .before .before .before .before .before .before .before .before .before .before .before .measure-colours .ensures) (s .1) in
-    let l = picture-counted (c .before .before .before .before .before .before .before .before .before .before .measure-picture .ensures) (s .0) in
+    let a = c .before .before .before .before .before .before .before .before .before .before .before .before .before .before .before .before .before .args in
+    let k = colour-counted (a .previous-palette .now) (a .next-palette .now) (c .before .before .before .before .before .before .before .before .before .before .before .measure-colours .ensures) (c .before .before .before .before .before .before .before .before .before .before .before .before .before .before .before .before .before .pre .1) in
+    let l = picture-counted (a .width) (a .height) (a .previous-picture .now) (a .next-picture .now) (c .before .before .before .before .before .before .before .before .before .before .measure-picture .ensures) (c .before .before .before .before .before .before .before .before .before .before .before .before .before .before .before .before .before .pre .0) in
     omega (arith, k .short, l .short)
 
 write-colours-requires : tie.Need-write-colours-requires
-write-colours-requires c κs =
-    let s = c .before .before .before .before .before .before .before .before .before .before .before .before .before .before .before .before .before .before .pre in
-    (s .1, c .before .before .before .before .before .before .before .before .before .before .before .before .measure-colours .ensures, omega (arith, c .before .before .before .before .before .before .before .before .if1 .left))
+write-colours-requires c κs = (c .before .before .before .before .before .before .before .before .before .before .before .before .before .before .before .before .before .before .pre .1, c .before .before .before .before .before .before .before .before .before .before .before .before .measure-colours .ensures, omega (arith, c .before .before .before .before .before .before .before .before .if1 .left))
 
 write-picture-requires : tie.Need-write-picture-requires
-write-picture-requires c κs =
-    let s = c .before .before .before .before .before .before .before .before .before .before .before .before .before .before .before .before .before .before .before .before .before .before .pre in
-    (s .0, c .before .before .before .before .before .before .before .before .before .before .before .before .before .before .before .measure-picture .ensures, omega (arith, c .before .before .before .before .before .before .before .before .before .before .before .before .if1 .left))
+write-picture-requires c κs = (c .before .before .before .before .before .before .before .before .before .before .before .before .before .before .before .before .before .before .before .before .before .before .pre .0, c .before .before .before .before .before .before .before .before .before .before .before .before .before .before .before .measure-picture .ensures, omega (arith, c .before .before .before .before .before .before .before .before .before .before .before .before .if1 .left))
 
 same-length : tie.Need-same-length
 same-length c = search needs
 
 returns-2 : tie.Need-returns-2
 returns-2 c =
-    let s = c .before .before .before .before .before .before .before .before .before .before .before .before .before .before .before .before .before .before .before .before .before .before .before .before .before .pre in
+    let a = c .before .before .before .before .before .before .before .before .before .before .before .before .before .before .before .before .before .before .before .before .before .before .before .before .before .args in
     let header = c .before .before .before .before .before .before .before .before .before .before .before .put-frame-header in
     let colours = c .before .before .before .before .before .before .write-colours in
     let picture = c .before .before .write-picture in
-    house-stored (s .1) (s .0) (c .before .before .before .before .before .before .before .before .before .before .before .before .before .before .before .before .before .before .before .measure-colours .ensures) (c .before .before .before .before .before .before .before .before .before .before .before .before .before .before .before .before .before .before .measure-picture .ensures)
-    (c .before .before .before .before .before .before .before .before .before .before .before .before .before .before .before .before .before .before .before .before .before .before .before .before .before .args .out .now) (header .last .0) (colours .last .0) (picture .last .0) (c .before .before .before .before .before .before .before .before .before .before .before .before .before .before .before .if1 .left) (header .ensures) (colours .ensures) (picture .ensures)
+    house-stored (a .width) (a .height) (a .previous-picture .now) (a .previous-palette .now) (a .next-picture .now) (a .next-palette .now) (c .before .before .before .before .before .before .before .before .before .before .before .before .before .before .before .before .before .before .before .before .before .before .before .before .before .pre .1) (c .before .before .before .before .before .before .before .before .before .before .before .before .before .before .before .before .before .before .before .before .before .before .before .before .before .pre .0) (c .before .before .before .before .before .before .before .before .before .before .before .before .before .before .before .before .before .before .before .measure-colours .ensures) (c .before .before .before .before .before .before .before .before .before .before .before .before .before .before .before .before .before .before .measure-picture .ensures)
+    (a .out .now) (header .last .0) (colours .last .0) (picture .last .0) (c .before .before .before .before .before .before .before .before .before .before .before .before .before .before .before .if1 .left) (header .ensures) (colours .ensures) (picture .ensures)
 
 pub write-house-spec : {M : Type 1} → statement M
 write-house-spec =

@@ -1,3 +1,0 @@
-pub mod CellLaws
-pub mod RunLaws
-pub mod StretchLaws

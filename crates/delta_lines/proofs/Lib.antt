@@ -1,4 +1,0 @@
-pub mod PairLaws
-pub mod PacketLaws
-pub mod SpanLaws
-pub mod LineLaws

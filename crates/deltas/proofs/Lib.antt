@@ -1,4 +1,0 @@
-pub mod RowLaws
-pub mod Turns
-pub mod LineBack
-pub mod ReadsBack

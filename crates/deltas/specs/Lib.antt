@@ -1,2 +1,0 @@
-pub mod Delta
-pub mod Rows

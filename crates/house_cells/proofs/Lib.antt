@@ -1,0 +1,4 @@
+pub mod Ahead
+pub mod CellLaws
+pub mod RunLaws
+pub mod StretchLaws

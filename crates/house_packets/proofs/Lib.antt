@@ -1,0 +1,6 @@
+pub mod UnitLaws
+pub mod PacketLaws
+pub mod GapLaws
+pub mod RowLaws
+pub mod Turns
+pub mod PacketsBack

@@ -1,0 +1,111 @@
+-- Invariant: size is that of the stretches before row i, and the stretches from row i on give the rest.
+use Rattle.house_ss2.proofs.RowLaws.{rows-inside, stretch-length, body-length}
+use Rattle.house_ss2.specs.Delta.{stretchLines, changedRows}
+use Rattle.house_ss2.specs.Line.{lineMost}
+use Rattle.house_cells.proofs.StretchLaws.{Measured, measured-first, measured-on, measured-all}
+use lib.ListN.{length}
+use native.Mathlib.Omega.{arith}
+use Prim.Native.Nat.{_-_, _+_, _≤_, _*_}
+use borrow.Author.Needs.{needs}
+use Rattle.house_ss2.proofs.delta_size.Statement.{statement}
+use Rattle.house_ss2.proofs.delta_size.Tie as tie
+
+abbrev Inv-loop : tie.InvT-loop
+Inv-loop previous next width height i₀ size₀ i size = (i ≤ height) × (size ≤ (2 + lineMost) * i) × Measured width height previous next (stretchLines width) i size
+
+abbrev μ-loop : tie.MeasureT-loop
+μ-loop previous next width height i₀ size₀ i size = height - i
+
+loop-holds : tie.Need-loop-holds Inv-loop μ-loop
+loop-holds c =
+    let a = c .before .before .args in
+    (omega arith, omega arith, measured-first (a .width) (a .height) (a .previous .now) (a .next .now) (stretchLines (a .width)))
+
+next-stretch-requires : tie.Need-next-stretch-requires Inv-loop μ-loop
+next-stretch-requires c κs = omega (arith, c .before .before .before .pre)
+
+add-result : tie.Need-add-result Inv-loop μ-loop
+add-result c = search needs
+
+returns : tie.Need-returns Inv-loop μ-loop
+unfolding changedRows
+returns c =
+    let a = c .before .before .before .before .before .before .args in
+    let l = c .before .before .before .loop in
+    let s = c .before .before .next-stretch in (
+      omega (
+        arith,
+        measured-all (a .width) (a .height) (a .previous .now) (a .next .now) (stretchLines (a .width)) (l .i) (s .result .gap) (s .result .changed) (l .size) (s .ensures) (l .inv .2) (c .if1 .taken),
+        body-length (a .width) (a .height) (a .previous .now) (a .next .now),
+      ),
+      omega (arith, l .inv .0, l .inv .1, c .before .before .before .before .before .before .pre .2),
+    )
+
+skip-size-requires : tie.Need-skip-size-requires Inv-loop μ-loop
+skip-size-requires c κs = search needs
+
+add-lines-size : tie.Need-add-lines-size Inv-loop μ-loop
+add-lines-size c = search needs
+
+lines-size-requires : tie.Need-lines-size-requires Inv-loop μ-loop
+lines-size-requires c κs =
+    let a = c .before .before .before .before .before .before .before .before .args in
+    let x = c .before .before .before .before .next-stretch .ensures .inside in
+    let n = c .before .before .before .before .before .loop .i + c .before .before .before .before .next-stretch .result .gap + c .before .before .before .before .next-stretch .result .changed in (
+      c .before .before .before .before .before .before .before .before .pre .0,
+      c .before .before .before .before .before .before .before .before .pre .1,
+      omega (arith, x, c .before .before .before .before .before .before .before .before .pre .2),
+      rows-inside (a .width) n (a .height) (length (a .previous .now)) x (c .before .before .before .before .before .before .before .before .pre .3),
+      rows-inside (a .width) n (a .height) (length (a .next .now)) x (c .before .before .before .before .before .before .before .before .pre .4),
+    )
+
+add-size : tie.Need-add-size Inv-loop μ-loop
+add-size c = search needs
+
+add-size-2 : tie.Need-add-size-2 Inv-loop μ-loop
+add-size-2 c = search needs
+
+add-i : tie.Need-add-i Inv-loop μ-loop
+add-i c = search needs
+
+add-i-2 : tie.Need-add-i-2 Inv-loop μ-loop
+add-i-2 c = search needs
+
+loop-less : tie.Need-loop-less Inv-loop μ-loop
+loop-less c = omega (arith, c .before .before .before .before .before .before .before .next-stretch .ensures .inside, c .before .before .before .before .before .if1 .left)
+
+loop-again : tie.Need-loop-again Inv-loop μ-loop
+loop-again c =
+    let a = c .before .before .before .before .before .before .before .before .before .before .before .args in
+    let l = c .before .before .before .before .before .before .before .before .loop in
+    let s = c .before .before .before .before .before .before .before .next-stretch in
+    let g = s .result .gap in
+    let m = s .result .changed in
+    let some : 1 ≤ m = omega (arith, c .before .before .before .before .before .if1 .left) in
+    let k = c .before .before .before .before .skip-size in
+    let n = c .before .before .lines-size in (
+      s .ensures .inside,
+      omega (arith, l .inv .1, k .ensures .1, n .ensures .1),
+      measured-on (a .width) (a .height) (a .previous .now) (a .next .now) (stretchLines (a .width)) (l .i) g m (l .size) (s .ensures) (l .inv .2) (k .result + n .result) some
+          (omega (arith, k .ensures .0, n .ensures .0, stretch-length (a .width) (l .i) g m (a .previous .now) (a .next .now))),
+    )
+
+pub delta-size-spec : {M : Type 1} → statement M
+delta-size-spec =
+    tie.close
+    (tie.spec
+    Inv-loop
+    μ-loop
+    loop-holds
+    next-stretch-requires
+    add-result
+    returns
+    skip-size-requires
+    add-lines-size
+    lines-size-requires
+    add-size
+    add-size-2
+    add-i
+    add-i-2
+    loop-less
+    loop-again)

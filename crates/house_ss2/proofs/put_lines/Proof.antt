@@ -1,0 +1,71 @@
+-- Invariant: all lines stored at at are those stored so far, and those of the left rows from row r on stored at here.
+use Rattle.house_ss2.proofs.RowLaws.{row-inside, rows-few, Storing, storing-first, storing-room, storing-on, storing-ends}
+use lib.ListN.{length}
+use native.Mathlib.Omega.{arith}
+use Prim.Native.Nat.{_+_, _<_}
+use borrow.Author.Needs.{needs}
+use Rattle.house_ss2.proofs.put_lines.Statement.{statement}
+use Rattle.house_ss2.proofs.put_lines.Tie as tie
+
+abbrev Inv-loop : tie.InvT-loop
+Inv-loop out₀ at previous next width first n r₀ left₀ here₀ out r left here = Storing width previous next first n out₀ at out r left here
+
+abbrev μ-loop : tie.MeasureT-loop
+μ-loop out₀ at previous next width first n r₀ left₀ here₀ out r left here = left
+
+loop-holds : tie.Need-loop-holds Inv-loop μ-loop
+loop-holds c = let a = c .before .before .before .args in storing-first (a .width) (a .previous .now) (a .next .now) (a .first) (a .n) (a .out .now) (a .at) (c .before .before .before .pre .4)
+
+put-row-requires : tie.Need-put-row-requires Inv-loop μ-loop
+put-row-requires c κs =
+    let a = c .before .before .before .before .before .before .args in
+    let l = c .before .before .loop in
+    let here : l .r < a .first + a .n = omega (arith, l .inv .place, c .before .loop-test .taken) in (
+      c .before .before .before .before .before .before .pre .0,
+      c .before .before .before .before .before .before .pre .1,
+      row-inside (a .width) (l .r) (a .first + a .n) (length (a .previous .now)) here (c .before .before .before .before .before .before .pre .2),
+      row-inside (a .width) (l .r) (a .first + a .n) (length (a .next .now)) here (c .before .before .before .before .before .before .pre .3),
+      storing-room (a .width) (a .previous .now) (a .next .now) (a .first) (a .n) (a .out .now) (a .at) (l .out) (l .r) (l .left) (l .here) (l .inv) (c .before .loop-test .taken),
+    )
+
+add-r : tie.Need-add-r Inv-loop μ-loop
+add-r c =
+    let a = c .before .before .before .before .before .before .before .before .before .args in
+    omega (arith, c .before .before .before .before .before .loop .inv .place, c .before .before .before .before .loop-test .taken, rows-few (a .width) (a .first + a .n) (length (a .next .now)) (c .before .before .before .before .before .before .before .before .before .pre .0) (c .before .before .before .before .before .before .before .before .before .pre .3))
+
+sub-left : tie.Need-sub-left Inv-loop μ-loop
+sub-left c = search needs
+
+loop-less : tie.Need-loop-less Inv-loop μ-loop
+loop-less c = search needs
+
+loop-again : tie.Need-loop-again Inv-loop μ-loop
+loop-again c =
+    let a = c .before .before .before .before .before .before .before .before .before .args in
+    let l = c .before .before .before .before .before .loop in
+    let e = c .before .before .put-row .ensures in
+    storing-on (a .width) (a .previous .now) (a .next .now) (a .first) (a .n) (a .out .now) (a .at) (l .out) (l .r) (l .left) (l .here) (l .inv) (c .before .before .before .before .loop-test .taken) (c .before .before .put-row .last .0) (c .before .before .put-row .result) (e .0) (e .1)
+
+same-length : tie.Need-same-length Inv-loop μ-loop
+same-length c = c .before .loop .inv .ahead .long
+
+returns : tie.Need-returns Inv-loop μ-loop
+returns c =
+    let a = c .before .before .before .before .before .args in
+    let l = c .before .loop in
+    storing-ends (a .width) (a .previous .now) (a .next .now) (a .first) (a .n) (a .out .now) (a .at) (l .out) (l .r) (l .left) (l .here) (l .inv) (omega (arith, c .loop-test .left))
+
+pub put-lines-spec : {M : Type 1} → statement M
+put-lines-spec =
+    tie.close
+    (tie.spec
+    Inv-loop
+    μ-loop
+    loop-holds
+    put-row-requires
+    add-r
+    sub-left
+    loop-less
+    loop-again
+    same-length
+    returns)
