@@ -1,22 +1,12 @@
--- Laws of answers, limits and walks.
+-- Laws of answers.
 use mathlib.Core.Path.{_≡_, refl, sym, ap, ap₂, _∙_}
 use mathlib.Core.List.{List, [], _∷_}
-use mathlib.Core.Bool.{Bool, true, false, _&&_}
-use Prim.Native.Nat.{ℕ, _-_, _*_, _≤_}
-use native.Mathlib.Nat.{mul-le-mul}
+use Prim.Native.Nat.{ℕ, _-_, _<_}
 use native.Mathlib.Omega.{arith}
-use borrow.Author.Tests.{leb-true}
-use lib.Dec.{leb}
-use lib.ListN.{length, getD}
-use Rattle.words.specs.Writes.{Write, written}
-use Rattle.words.proofs.Laws.{Inside, inside-append}
-use Rattle.words.proofs.Bytewise.{Bytewise, bytewise-append}
-use Rattle.answer.specs.Answer.{number, told, toldWritten, maxWidth, maxHeight, sizeOk}
-use Rattle.answer.specs.Walk.{Walk, onward}
+use lib.ListN.{getD}
+use Rattle.answer.specs.Answer.{number, told, toldWritten}
 use Rattle.answer.specs.declared.Refusal.{Refusal}
 use Rattle.answer.specs.declared.Refusal.the-variants.{ShortSlice, BadSize, NoRoom, Cut, WrongType, SmallSize, BodyEnds, ZeroCount, PastWidth, PastHeight, BadWord, PastPalette, OverLevel, BadHeader, FewFrames, BadRing, BadTrailer, WrongTime}
-use Rattle.answer.specs.declared.Verdict.{Verdict}
-use Rattle.answer.specs.declared.Verdict.the-variants.{Ends, Fault}
 use Rattle.answer.specs.declared.Answer.{Answer}
 use Rattle.answer.specs.declared.Answer.the-variants.{Done, Refused}
 use Rattle.answer.specs.declared.Written.{Written}
@@ -75,52 +65,23 @@ told-written-injective (written.Refused d at) (written.Refused e to) p =
     let q : at ≡ to = cc in
     ap₂ (λ (x : Refusal) (y : ℕ). written.Refused x y) (number-injective d e n) q
 
--- limits
-
-pub both-true : (a b : Bool) → (a && b) ≡ true → (a ≡ true) × (b ≡ true)
-both-true true b h = (refl, h)
-both-true false b h = absurd (let z : _≡_ {A = ℕ} 0 1 = cc in omega arith)
-
--- a size in range
-pub size-in : (w h : ℕ) → sizeOk w h ≡ true → (1 ≤ w) × (w ≤ maxWidth) × (1 ≤ h) × (h ≤ maxHeight)
-size-in w h e =
-    let p = both-true (leb 1 w) (leb w maxWidth && (leb 1 h && leb h maxHeight)) e in
-    let q = both-true (leb w maxWidth) (leb 1 h && leb h maxHeight) (p .1) in
-    let r = both-true (leb 1 h) (leb h maxHeight) (q .1) in
-    (leb-true 1 w (p .0), leb-true w maxWidth (q .0), leb-true 1 h (r .0), leb-true h maxHeight (r .1))
-
-pub size-product : (w h : ℕ) → sizeOk w h ≡ true → w * h ≤ 64000
-size-product w h e = mul-le-mul (size-in w h e .1) (size-in w h e .3)
-
--- walks
-
--- d after a walk's writes
-abbrev pub after : List ℕ → Walk → List ℕ
-after d k = written (k .writes) d
-
--- a body's data ends within its bytes
-abbrev pub VerdictIn : List ℕ → Verdict → Type 0
-VerdictIn b (Ends at) = at ≤ length b
-VerdictIn b (Fault e) = Unit {0}
-
--- a fault is no end
-pub fault-not-end : {C : Type 0} {e : Refusal} {at : ℕ} → Fault e ≡ Ends at → C
-fault-not-end e = let z : _≡_ {A = ℕ} 0 1 = cc in absurd (omega arith)
-
--- of one walk after another: where both end within b, so does the whole
-pub onward-in : (b : List ℕ) (ws : List Write) (v : Verdict) (k : ℕ → Walk) → VerdictIn b v
-    → ((at : ℕ) → at ≤ length b → VerdictIn b (k at .verdict)) → VerdictIn b (onward ws v k .verdict)
-onward-in b ws (Ends at) k i f = f at i
-onward-in b ws (Fault e) k i f = tt
-
--- of one walk after another: where the writes of both lie within the first n bytes, so do those of the whole
-pub onward-inside : (n : ℕ) (ws : List Write) (v : Verdict) (k : ℕ → Walk) → Inside n ws
-    → ((at : ℕ) → Inside n (k at .writes)) → Inside n (onward ws v k .writes)
-onward-inside n ws (Ends at) k i f = inside-append n ws (k at .writes) i (f at)
-onward-inside n ws (Fault e) k i f = i
-
--- of one walk after another: where both write bytes, so does the whole
-pub onward-bytewise : (ws : List Write) (v : Verdict) (k : ℕ → Walk) → Bytewise ws
-    → ((at : ℕ) → Bytewise (k at .writes)) → Bytewise (onward ws v k .writes)
-onward-bytewise ws (Ends at) k i f = bytewise-append ws (k at .writes) i (f at)
-onward-bytewise ws (Fault e) k i f = i
+-- numbers have two digits at most
+pub number-small : (e : Refusal) → number e < 100
+number-small ShortSlice = omega arith
+number-small BadSize = omega arith
+number-small NoRoom = omega arith
+number-small Cut = omega arith
+number-small WrongType = omega arith
+number-small SmallSize = omega arith
+number-small BodyEnds = omega arith
+number-small ZeroCount = omega arith
+number-small PastWidth = omega arith
+number-small PastHeight = omega arith
+number-small BadWord = omega arith
+number-small PastPalette = omega arith
+number-small OverLevel = omega arith
+number-small BadHeader = omega arith
+number-small FewFrames = omega arith
+number-small BadRing = omega arith
+number-small BadTrailer = omega arith
+number-small WrongTime = omega arith

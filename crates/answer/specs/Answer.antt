@@ -1,9 +1,6 @@
--- Document 01, "Refusal numbers": each answer is done, or a number with a place. Limits and states.
+-- Document 01, "Refusal numbers": each answer is done, or a number with a place.
 use Prim.Native.Nat.{ℕ}
 use mathlib.Core.List.{List, [], _∷_}
-use mathlib.Core.Bool.{Bool, _&&_}
-use lib.ListN.{replicate}
-use lib.Dec.{leb}
 use Rattle.answer.specs.declared.Refusal.{Refusal}
 use Rattle.answer.specs.declared.Refusal.the-variants.{ShortSlice, BadSize, NoRoom, Cut, WrongType, SmallSize, BodyEnds, ZeroCount, PastWidth, PastHeight, BadWord, PastPalette, OverLevel, BadHeader, FewFrames, BadRing, BadTrailer, WrongTime}
 use Rattle.answer.specs.declared.Answer.{Answer}
@@ -46,29 +43,3 @@ told (Refused e place) = refused (number e) place
 abbrev pub toldWritten : Written → Said
 toldWritten (written.Done length) = done (length ∷ [])
 toldWritten (written.Refused e place) = refused (number e) place
-
--- "Width is 1 to 320, height 1 to 200"
-abbrev pub maxWidth : ℕ
-maxWidth = 320
-
-abbrev pub maxHeight : ℕ
-maxHeight = 200
-
--- "frames 1 to 4,000"
-abbrev pub maxFrames : ℕ
-maxFrames = 4000
-
-abbrev pub sizeOk : ℕ → ℕ → Bool
-sizeOk w h = leb 1 w && (leb w maxWidth && (leb 1 h && leb h maxHeight))
-
--- a picture and a palette
-pub record State : Type 0 where
-  pub picture : List ℕ
-  pub palette : List ℕ
-
-abbrev pub state : List ℕ → List ℕ → State
-state p q = record { picture = p; palette = q }
-
--- document 01's "Blank: all pixels and palette bytes 0", of a picture of n pixels
-unfoldable pub blank : ℕ → State
-blank n = state (replicate n 0) (replicate 768 0)

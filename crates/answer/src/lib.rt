@@ -1,40 +1,6 @@
-// What a call answers: done, or one of document 01's refusals with a place. Limits of a picture.
+// What a call answers: done, or one of document 01's refusals with a place.
 ghost use mathlib.Core.Path.{_≡_};
-ghost use Rattle.answer.specs.Answer.{number, sizeOk};
-
-// Limits of a picture (document 01, "What the boards need").
-pub const MAX_WIDTH: usize = 320;
-
-pub const MAX_HEIGHT: usize = 200;
-
-pub const PALETTE_BYTES: usize = 768;
-
-// The most frames of a reel, the ring not counted.
-pub const MAX_FRAMES: usize = 4000;
-
-// The magic of an FLC file.
-pub const FLC_MAGIC: usize = 0xaf12;
-
-// The types of a frame chunk and of a prefix chunk, and the kinds of sub-chunks, by the names of document 001.
-pub const FRAME_TYPE: usize = 0xf1fa;
-
-pub const PREFIX_TYPE: usize = 0xf100;
-
-pub const FLI_COLOR256: usize = 4;
-
-pub const FLI_SS2: usize = 7;
-
-pub const FLI_COLOR: usize = 11;
-
-pub const FLI_LC: usize = 12;
-
-pub const FLI_BLACK: usize = 13;
-
-pub const FLI_BRUN: usize = 15;
-
-pub const FLI_COPY: usize = 16;
-
-pub const FLI_PSTAMP: usize = 18;
+ghost use Rattle.answer.specs.Answer.{number};
 
 // The refusals, in the order of their numbers (document 01, "Refusal numbers").
 pub enum Refusal {
@@ -76,18 +42,6 @@ pub enum Refusal {
     WrongTime,
 }
 
-// How a walk over a body comes out: the offset where its data ended, or its first fault.
-pub enum Verdict {
-    Ends(usize),
-    Fault(Refusal),
-}
-
-// A packet that was played: how many pixels it has, and how many bytes of data.
-pub struct Played {
-    pub pixels: usize,
-    pub bytes: usize,
-}
-
 // Done, or a refusal with its place.
 pub enum Answer {
     Done,
@@ -98,22 +52,6 @@ pub enum Answer {
 pub enum Written {
     Done(usize),
     Refused(Refusal, usize),
-}
-
-// Whether a picture may have this width and height.
-pub fn size_ok(width: usize, height: usize) -> bool
-    ensures { λ r. ⌜ r ≡ sizeOk width height ⌝ }
-{
-    if width < 1 {
-        return false;
-    }
-    if width > MAX_WIDTH {
-        return false;
-    }
-    if height < 1 {
-        return false;
-    }
-    height <= MAX_HEIGHT
 }
 
 // The number of a refusal.

@@ -1,22 +1,18 @@
--- What a caller in C holds after a call: numbers, and the bytes that were lent.
+-- What a caller in C holds after a call: numbers, and the memory that was lent.
 use Prim.Native.Nat.{ℕ}
 use mathlib.Core.Path.{_≡_}
-use mathlib.Core.List.{List, [], _∷_}
-use mathlib.Core.Bool.{not}
+use mathlib.Core.List.{[], _∷_}
+use mathlib.Core.Bool.{not, cond}
 use lib.Dec.{eqb}
-use lib.ListN.{getD}
+use Rattle.format.specs.Limits.{sizeOf}
 use Rattle.answer.specs.Answer.{Said, done, refused, number}
-use Rattle.frame.specs.Reading.{Outcome}
-use Rattle.house.specs.Writing.{Output}
-use Rattle.rewrite.specs.Rewriting.{Rewritten}
-use Rattle.reel.specs.Check.{Checked}
-use Rattle.build.specs.declared.Reel.{Reel}
-use Rattle.build.specs.Record.{reel}
-use Rattle.close.specs.Closing.{Closed}
+use Rattle.state.specs.Outcome.{Memory, Outcome}
 use Rattle.chunks.specs.declared.Next.{Next}
 use Rattle.chunks.specs.declared.Next.the-variants as next
 use Rattle.reel_header.specs.declared.Head.{Head}
 use Rattle.reel_header.specs.declared.Head.the-variants as head
+use Rattle.reel_build.specs.declared.Reel.{Reel}
+use Rattle.reel_build.specs.Record.{ReelOutcome}
 use Rattle.capi.specs.declared.Record.{Record}
 use Rattle.capi.specs.declared.ReelHeader.{ReelHeader}
 use Rattle.capi.specs.declared.FrameSpan.{FrameSpan}
@@ -42,62 +38,37 @@ pub record Told (number place : ℕ) (s : Said) : Type 0 where
   pub number-is : number ≡ numberOf s
   pub place-is : place ≡ placeOf s
 
--- a reading: what is held is the outcome o
-pub record Read (number place : ℕ) (p q : List ℕ) (o : Outcome) : Type 0 where
+-- what is held after a call that left o behind: its number and place, and the lent memory
+pub record Held (number place : ℕ) (m : Memory) (o : Outcome) : Type 0 where
   pub told : Told number place (o .said)
-  pub picture-is : p ≡ o .picture
-  pub palette-is : q ≡ o .palette
+  pub memory-is : m ≡ o .memory
 
--- a writing
-pub record Wrote (number place length : ℕ) (out : List ℕ) (o : Output) : Type 0 where
-  pub told : Told number place (o .said)
-  pub length-is : length ≡ lengthOf (o .said)
-  pub bytes-are : out ≡ o .bytes
-
--- a rewriting
-pub record Rewrote (number place length : ℕ) (p q out : List ℕ) (o : Rewritten) : Type 0 where
-  pub told : Told number place (o .said)
-  pub length-is : length ≡ lengthOf (o .said)
-  pub picture-is : p ≡ o .picture
-  pub palette-is : q ≡ o .palette
-  pub bytes-are : out ≡ o .bytes
+-- the same of a call that writes, with how many bytes it wrote
+pub record HeldLength (number place written : ℕ) (m : Memory) (o : Outcome) : Type 0 where
+  pub held : Held number place m o
+  pub length-is : written ≡ lengthOf (o .said)
 
 -- the reel that C's record stands for: closed is any number but 0
-abbrev pub reelOf : Record → Reel
-reelOf r = reel (r .width) (r .height) (r .frames) (r .end) (not (eqb (r .closed) 0))
+abbrev pub reelFrom : Record → Reel
+reelFrom r = record { size = sizeOf (r .width) (r .height); frames = r .frames; end = r .end; closed = not (eqb (r .closed) 0) }
 
--- the record after a call: its values where done, else the one handed in
-abbrev pub recordOf : Said → Record → Record
-recordOf (done v) r = record { width = getD v 0 0; height = getD v 1 0; frames = getD v 2 0; end = getD v 3 0; closed = getD v 4 0 }
-recordOf (refused n place) r = r
+-- the record of a reel: closed is 1 or 0
+abbrev pub recordFor : Reel → Record
+recordFor r = record { width = r .size .width; height = r .size .height; frames = r .frames; end = r .end; closed = cond (r .closed) 1 0 }
+
+-- the record after a call: that of its reel where done, else the one handed in
+abbrev pub recordOf : Said → Reel → Record → Record
+recordOf (done v) after handed = recordFor after
+recordOf (refused n place) after handed = handed
 
 -- no reel: what a refused open gives
 abbrev pub nothing : Record
 nothing = record { width = 0; height = 0; frames = 0; end = 0; closed = 0 }
 
--- a check of a whole reel
-pub record CheckedReel (number place : ℕ) (p q p′ q′ : List ℕ) (o : Checked) : Type 0 where
-  pub told : Told number place (o .said)
-  pub picture1-is : p ≡ o .picture1
-  pub palette1-is : q ≡ o .palette1
-  pub picture2-is : p′ ≡ o .picture2
-  pub palette2-is : q′ ≡ o .palette2
-
--- an open or an add
-pub record BuiltReel (number place : ℕ) (after : Record) (b : List ℕ) (before : Record) (o : Output) : Type 0 where
-  pub told : Told number place (o .said)
-  pub record-is : after ≡ recordOf (o .said) before
-  pub bytes-are : b ≡ o .bytes
-
--- a close
-pub record ClosedReel (number place : ℕ) (after : Record) (b p q p′ q′ : List ℕ) (before : Record) (o : Closed) : Type 0 where
-  pub told : Told number place (o .said)
-  pub record-is : after ≡ recordOf (o .said) before
-  pub bytes-are : b ≡ o .bytes
-  pub picture1-is : p ≡ o .picture1
-  pub palette1-is : q ≡ o .palette1
-  pub picture2-is : p′ ≡ o .picture2
-  pub palette2-is : q′ ≡ o .palette2
+-- the same of a call that builds a reel, with the record
+pub record HeldReel (number place : ℕ) (after handed : Record) (m : Memory) (o : ReelOutcome) : Type 0 where
+  pub held : Held number place m (o .left)
+  pub record-is : after ≡ recordOf (o .left .said) (o .reel) handed
 
 -- a reel's header: its fields, or the refusal with place 0 and all fields 0
 abbrev pub headerFor : Head → ReelHeader

@@ -1,22 +1,25 @@
 // The entry points for C (include/flic.h), and nothing else: numbers, slices and plain structs. A slice is a pointer and then a length.
 ghost use mathlib.Core.Path.{_≡_};
+ghost use Rattle.format.specs.Limits.{sizeOf};
 ghost use Rattle.answer.specs.Answer.{told, toldWritten};
-ghost use Rattle.frame.specs.Reading.{readFrame};
-ghost use Rattle.house.specs.Writing.{writeFrame};
-ghost use Rattle.rewrite.specs.Rewriting.{rewriteFrame};
-ghost use Rattle.reel.specs.Check.{checkReel};
-ghost use Rattle.build.specs.Record.{toldBuilt};
-ghost use Rattle.build.specs.Building.{openReel, addFrame};
-ghost use Rattle.close.specs.Closing.{closeReel};
-ghost use Rattle.trailer.specs.Trailer.{checkTrailer, writeTrailer};
-ghost use Rattle.listing.specs.Listing.{list};
+ghost use Rattle.state.specs.State.{state};
+ghost use Rattle.state.specs.Outcome.{lentBytes, lentPair, lentBytesPair, lentPairs, lentBytesPairs};
 ghost use Rattle.chunks.specs.declared.Layout.the-variants.{Loose};
 ghost use Rattle.chunks.specs.Spans.{nextAt};
+ghost use Rattle.read_frame.specs.Reading.{readFrame};
+ghost use Rattle.house_frame.specs.Writing.{writeFrame};
+ghost use Rattle.house_rewrite.specs.Rewriting.{rewriteFrame};
 ghost use Rattle.reel_header.specs.Head.{headOf};
-ghost use Rattle.capi.specs.Capi.{headerFor, spanFor, lengthOf, nothing, reelOf, recordOf, Told, Read, Wrote, Rewrote, CheckedReel, BuiltReel, ClosedReel};
-use build::Built;
-use build::Reel;
+ghost use Rattle.reel_check.specs.Check.{checkReel};
+ghost use Rattle.reel_build.specs.Building.{openReel, addFrame};
+ghost use Rattle.reel_close.specs.Closing.{closeReel};
+ghost use Rattle.reel_trailer.specs.Trailer.{checkTrailer, writeTrailer};
+ghost use Rattle.list_chunks.specs.Listing.{list};
+ghost use Rattle.capi.specs.Capi.{headerFor, spanFor, lengthOf, nothing, reelFrom, recordFor, recordOf, Told, Held, HeldLength, HeldReel};
 use chunks::Next;
+use format::Size;
+use reel_build::Built;
+use reel_build::Reel;
 use reel_header::Head;
 
 // Number 0: done. Otherwise the refusal's number and place.
@@ -92,10 +95,10 @@ fn written_for_c(a: answer::Written) -> Delivered
     ensures { λ r. ⌜ Told (r .number) (r .place) (toldWritten a) × (r .length ≡ lengthOf (toldWritten a)) ⌝ }
 {
     match a {
-        answer::Written::Done(length) => Delivered {
+        answer::Written::Done(count) => Delivered {
             number: 0,
             place: 0,
-            length: length as u64,
+            length: count as u64,
         },
         answer::Written::Refused(e, place) => Delivered {
             number: answer::number_of(e),
@@ -114,10 +117,10 @@ pub extern "C" fn flic_read_frame(
     picture: &mut [u8],
     palette: &mut [u8],
 ) -> Answered
-    ensures { λ r. ⌜ Read (r .number) (r .place) (now (picture .exit)) (now (palette .exit))
-        (readFrame (now (bytes .entry)) width height (now (picture .entry)) (now (palette .entry))) ⌝ }
+    ensures { λ r. ⌜ Held (r .number) (r .place) (lentPair (state (now (picture .exit)) (now (palette .exit))))
+        (readFrame (now (bytes .entry)) (sizeOf width height) (state (now (picture .entry)) (now (palette .entry)))) ⌝ }
 {
-    let a = frame::read_frame(bytes, width, height, picture, palette);
+    let a = read_frame::read_frame(bytes, Size { width, height }, picture, palette);
     answer_for_c(a)
 }
 
@@ -132,12 +135,11 @@ pub extern "C" fn flic_write_frame(
     next_palette: &[u8],
     out: &mut [u8],
 ) -> Delivered
-    ensures { λ r. ⌜ Wrote (r .number) (r .place) (r .length) (now (out .exit))
-        (writeFrame width height (now («previous_picture» .entry)) (now («previous_palette» .entry)) (now («next_picture» .entry)) (now («next_palette» .entry)) (now (out .entry))) ⌝ }
+    ensures { λ r. ⌜ HeldLength (r .number) (r .place) (r .length) (lentBytes (now (out .exit)))
+        (writeFrame (sizeOf width height) (state (now («previous_picture» .entry)) (now («previous_palette» .entry))) (state (now («next_picture» .entry)) (now («next_palette» .entry))) (now (out .entry))) ⌝ }
 {
-    let a = house::write_frame(
-        width,
-        height,
+    let a = house_frame::write_frame(
+        Size { width, height },
         previous_picture,
         previous_palette,
         next_picture,
@@ -159,13 +161,12 @@ pub extern "C" fn flic_rewrite_frame(
     work_palette: &mut [u8],
     out: &mut [u8],
 ) -> Delivered
-    ensures { λ r. ⌜ Rewrote (r .number) (r .place) (r .length) (now («work_picture» .exit)) (now («work_palette» .exit)) (now (out .exit))
-        (rewriteFrame (now (bytes .entry)) width height (now («previous_picture» .entry)) (now («previous_palette» .entry)) (now («work_picture» .entry)) (now («work_palette» .entry)) (now (out .entry))) ⌝ }
+    ensures { λ r. ⌜ HeldLength (r .number) (r .place) (r .length) (lentBytesPair (now (out .exit)) (state (now («work_picture» .exit)) (now («work_palette» .exit))))
+        (rewriteFrame (now (bytes .entry)) (sizeOf width height) (state (now («previous_picture» .entry)) (now («previous_palette» .entry))) (state (now («work_picture» .entry)) (now («work_palette» .entry))) (now (out .entry))) ⌝ }
 {
-    let a = rewrite::rewrite_frame(
+    let a = house_rewrite::rewrite_frame(
         bytes,
-        width,
-        height,
+        Size { width, height },
         previous_picture,
         previous_palette,
         work_picture,
@@ -176,41 +177,52 @@ pub extern "C" fn flic_rewrite_frame(
 }
 
 fn reel_from_c(r: Record) -> Reel
-    ensures { λ x. ⌜ x ≡ reelOf r ⌝ }
+    ensures { λ x. ⌜ x ≡ reelFrom r ⌝ }
 {
     Reel {
-        width: r.width as usize,
-        height: r.height as usize,
+        size: Size {
+            width: r.width as usize,
+            height: r.height as usize,
+        },
         frames: r.frames as usize,
         end: r.end as usize,
         closed: r.closed != 0,
     }
 }
 
-fn built_for_c(a: Built, handed: Record) -> Recorded
-    ensures { λ r. ⌜ Told (r .number) (r .place) (toldBuilt a) × (r .reel ≡ recordOf (toldBuilt a) handed) ⌝ }
+fn record_for_c(r: Reel) -> Record
+    ensures { λ x. ⌜ x ≡ recordFor r ⌝ }
 {
-    match a {
-        Built::Refused(e, place) => Recorded {
+    let mut closed = 0;
+    if r.closed {
+        closed = 1;
+    }
+    let size = r.size;
+    Record {
+        width: size.width as u64,
+        height: size.height as u64,
+        frames: r.frames as u64,
+        end: r.end as u64,
+        closed,
+    }
+}
+
+fn built_for_c(a: Built, handed: Record) -> Recorded
+    ensures { λ r. ⌜ Told (r .number) (r .place) (told (a .answer)) × (r .reel ≡ recordOf (told (a .answer)) (a .reel) handed) ⌝ }
+{
+    let answer = a.answer;
+    match answer {
+        answer::Answer::Refused(e, place) => Recorded {
             number: answer::number_of(e),
             place: place as u64,
             reel: handed,
         },
-        Built::Done(reel) => {
-            let mut closed = 0;
-            if reel.closed {
-                closed = 1;
-            }
+        answer::Answer::Done => {
+            let reel = a.reel;
             Recorded {
                 number: 0,
                 place: 0,
-                reel: Record {
-                    width: reel.width as u64,
-                    height: reel.height as u64,
-                    frames: reel.frames as u64,
-                    end: reel.end as u64,
-                    closed,
-                },
+                reel: record_for_c(reel),
             }
         }
     }
@@ -225,10 +237,10 @@ pub extern "C" fn flic_check_reel(
     second_picture: &mut [u8],
     second_palette: &mut [u8],
 ) -> Answered
-    ensures { λ r. ⌜ CheckedReel (r .number) (r .place) (now («first_picture» .exit)) (now («first_palette» .exit)) (now («second_picture» .exit)) (now («second_palette» .exit))
-        (checkReel (now (bytes .entry)) (now («first_picture» .entry)) (now («first_palette» .entry)) (now («second_picture» .entry)) (now («second_palette» .entry))) ⌝ }
+    ensures { λ r. ⌜ Held (r .number) (r .place) (lentPairs (state (now («first_picture» .exit)) (now («first_palette» .exit))) (state (now («second_picture» .exit)) (now («second_palette» .exit))))
+        (checkReel (now (bytes .entry)) (state (now («first_picture» .entry)) (now («first_palette» .entry))) (state (now («second_picture» .entry)) (now («second_palette» .entry)))) ⌝ }
 {
-    let a = reel::check_reel(
+    let a = reel_check::check_reel(
         bytes,
         first_picture,
         first_palette,
@@ -246,9 +258,9 @@ pub extern "C" fn flic_open_reel(
     speed: u32,
     bytes: &mut [u8],
 ) -> Recorded
-    ensures { λ r. ⌜ BuiltReel (r .number) (r .place) (r .reel) (now (bytes .exit)) nothing (openReel width height speed (now (bytes .entry))) ⌝ }
+    ensures { λ r. ⌜ HeldReel (r .number) (r .place) (r .reel) nothing (lentBytes (now (bytes .exit))) (openReel (sizeOf width height) speed (now (bytes .entry))) ⌝ }
 {
-    let a = build::open_reel(width, height, speed, bytes);
+    let a = reel_build::open_reel(Size { width, height }, speed, bytes);
     built_for_c(
         a,
         Record {
@@ -271,10 +283,10 @@ pub extern "C" fn flic_add_frame(
     next_picture: &[u8],
     next_palette: &[u8],
 ) -> Recorded
-    ensures { λ r. ⌜ BuiltReel (r .number) (r .place) (r .reel) (now (bytes .exit)) reel
-        (addFrame (reelOf reel) (now (bytes .entry)) (now («shown_picture» .entry)) (now («shown_palette» .entry)) (now («next_picture» .entry)) (now («next_palette» .entry))) ⌝ }
+    ensures { λ r. ⌜ HeldReel (r .number) (r .place) (r .reel) reel (lentBytes (now (bytes .exit)))
+        (addFrame (reelFrom reel) (now (bytes .entry)) (state (now («shown_picture» .entry)) (now («shown_palette» .entry))) (state (now («next_picture» .entry)) (now («next_palette» .entry)))) ⌝ }
 {
-    let a = build::add_frame(
+    let a = reel_build::add_frame(
         reel_from_c(reel),
         bytes,
         shown_picture,
@@ -295,10 +307,10 @@ pub extern "C" fn flic_close_reel(
     second_picture: &mut [u8],
     second_palette: &mut [u8],
 ) -> Recorded
-    ensures { λ r. ⌜ ClosedReel (r .number) (r .place) (r .reel) (now (bytes .exit)) (now («first_picture» .exit)) (now («first_palette» .exit)) (now («second_picture» .exit)) (now («second_palette» .exit)) reel
-        (closeReel (reelOf reel) (now (bytes .entry)) (now («first_picture» .entry)) (now («first_palette» .entry)) (now («second_picture» .entry)) (now («second_palette» .entry))) ⌝ }
+    ensures { λ r. ⌜ HeldReel (r .number) (r .place) (r .reel) reel (lentBytesPairs (now (bytes .exit)) (state (now («first_picture» .exit)) (now («first_palette» .exit))) (state (now («second_picture» .exit)) (now («second_palette» .exit))))
+        (closeReel (reelFrom reel) (now (bytes .entry)) (state (now («first_picture» .entry)) (now («first_palette» .entry))) (state (now («second_picture» .entry)) (now («second_palette» .entry)))) ⌝ }
 {
-    let a = close::close_reel(
+    let a = reel_close::close_reel(
         reel_from_c(reel),
         bytes,
         first_picture,
@@ -314,25 +326,25 @@ pub extern "C" fn flic_close_reel(
 pub extern "C" fn flic_check_trailer(bytes: &[u8]) -> Answered
     ensures { λ r. ⌜ Told (r .number) (r .place) (checkTrailer (now (bytes .entry))) ⌝ }
 {
-    let a = trailer::check_trailer(bytes);
+    let a = reel_trailer::check_trailer(bytes);
     answer_for_c(a)
 }
 
 // Writes index and trailer behind a reel.
 #[no_mangle]
 pub extern "C" fn flic_write_trailer(bytes: &mut [u8]) -> Delivered
-    ensures { λ r. ⌜ Wrote (r .number) (r .place) (r .length) (now (bytes .exit)) (writeTrailer (now (bytes .entry))) ⌝ }
+    ensures { λ r. ⌜ HeldLength (r .number) (r .place) (r .length) (lentBytes (now (bytes .exit))) (writeTrailer (now (bytes .entry))) ⌝ }
 {
-    let a = trailer::write_trailer(bytes);
+    let a = reel_trailer::write_trailer(bytes);
     written_for_c(a)
 }
 
 // Lists the chunks of a reel as text.
 #[no_mangle]
 pub extern "C" fn flic_list(bytes: &[u8], out: &mut [u8]) -> Delivered
-    ensures { λ r. ⌜ Wrote (r .number) (r .place) (r .length) (now (out .exit)) (list (now (bytes .entry)) (now (out .entry))) ⌝ }
+    ensures { λ r. ⌜ HeldLength (r .number) (r .place) (r .length) (lentBytes (now (out .exit))) (list (now (bytes .entry)) (now (out .entry))) ⌝ }
 {
-    let a = listing::list_into(bytes, out);
+    let a = list_chunks::list_into(bytes, out);
     written_for_c(a)
 }
 

@@ -10,7 +10,7 @@ use lib.Dec.{leb, eqb}
 use Rattle.words.specs.Words.{u16At, u32At}
 use Rattle.words.proofs.Tests.{by-test}
 use Rattle.answer.specs.declared.Refusal.the-variants.{Cut, WrongType, SmallSize}
-use Rattle.answer.specs.Format.{FRAME-TYPE}
+use Rattle.format.specs.Format.{FRAME-TYPE}
 use Rattle.chunks.specs.declared.FrameHeader.{FrameHeader}
 use Rattle.chunks.specs.declared.FrameHeader.the-variants as whole
 use Rattle.chunks.specs.declared.Header.{Header}

@@ -14,7 +14,7 @@ use lib.Dec.{leb, eqb}
 use Rattle.words.specs.Words.{u16At, u32At}
 use Rattle.words.proofs.There.{drop-word, drop-word32}
 use Rattle.words.proofs.Tests.{by-test}
-use Rattle.answer.specs.Format.{FRAME-TYPE}
+use Rattle.format.specs.Format.{FRAME-TYPE}
 use Rattle.answer.specs.declared.Refusal.{Refusal}
 use Rattle.answer.specs.declared.Refusal.the-variants.{FewFrames, Cut, SmallSize}
 use Rattle.answer.specs.declared.Answer.{Answer}
@@ -28,7 +28,7 @@ use Rattle.chunks.specs.declared.Layout.the-variants.{Loose, Packed}
 use Rattle.chunks.specs.declared.Next.{Next}
 use Rattle.chunks.specs.declared.Next.the-variants.{Fault, Frame}
 use Rattle.chunks.specs.Headers.{headerAt, frameHeader}
-use Rattle.chunks.specs.Spans.{Span, span, Spans, spanned, afterHeader, framed, topAt, leftAfter, spans, nextAt}
+use Rattle.chunks.specs.Spans.{Span, span, Spans, walked, afterHeader, framed, topAt, leftAfter, spans, nextAt}
 use Rattle.chunks.proofs.Headers.{header-whole, header-in, frame-whole, frame-in}
 use Rattle.chunks.proofs.Spans.{top-in, top-frame, top-other, top-packed, top-there, spans-none, spans-more, next-fault, next-here, next-past, next-by, spans-by}
 
@@ -108,7 +108,7 @@ spans-prefix layout n b count at =
     (λ m k e q d. refused-not-done d)
     (λ m k kind end q rest d. spans-more layout b m k
     ∙ ap (λ (x : Header). afterHeader k x (λ kind end. spans layout b (leftAfter kind m) end)) (top-prefix n b k layout kind end q)
-    ∙ ap (λ (s : Spans). spanned (span kind k end ∷ s .met) (s .answer)) (rest d)) count at
+    ∙ ap (λ (s : Spans). walked (span kind k end ∷ s .met) (s .answer)) (rest d)) count at
 
 -- 2. in the rest
 
@@ -129,7 +129,7 @@ movedMet k [] = []
 movedMet k (s ∷ ss) = span (s .kind) (k + s .from) (k + s .end) ∷ movedMet k ss
 
 abbrev pub moved : ℕ → Spans → Spans
-moved k s = spanned (movedMet k (s .met)) (movedAnswer k (s .answer))
+moved k s = walked (movedMet k (s .met)) (movedAnswer k (s .answer))
 
 -- so many bytes are there
 there-moved : (x y k : ℕ) (b : List ℕ) → y ≡ k + x → 1 ≤ x → leb y (length b) ≡ leb x (length (drop k b))
@@ -212,7 +212,7 @@ spans-moved layout b k count at =
     spans-by layout (drop k b) (λ (m i : ℕ) (s : Spans). spans layout b m (k + i) ≡ moved k s)
     (λ i. spans-none layout b (k + i))
     (λ m i e q. one m i (chunk.Fault e) q)
-    (λ m i kind end q rest. one m i (chunk.Chunk kind end) q ∙ ap (λ (s : Spans). spanned (span kind (k + i) (k + end) ∷ s .met) (s .answer)) rest) count at
+    (λ m i kind end q rest. one m i (chunk.Chunk kind end) q ∙ ap (λ (s : Spans). walked (span kind (k + i) (k + end) ∷ s .met) (s .answer)) rest) count at
   where
     one : (m i : ℕ) (x : Header) → topAt layout (drop k b) i ≡ x
         → spans layout b (suc m) (k + i) ≡ afterHeader (k + i) (movedHeader k x) (λ kind end. spans layout b (leftAfter kind m) end)

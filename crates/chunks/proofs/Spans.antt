@@ -15,7 +15,7 @@ use lib.Dec.{leb, eqb}
 use Rattle.words.specs.Words.{u16At}
 use Rattle.words.proofs.There.{drop-word}
 use Rattle.words.proofs.Tests.{by-test}
-use Rattle.answer.specs.Format.{FRAME-TYPE}
+use Rattle.format.specs.Format.{FRAME-TYPE}
 use Rattle.answer.specs.declared.Refusal.{Refusal}
 use Rattle.answer.specs.declared.Refusal.the-variants.{FewFrames}
 use Rattle.answer.specs.declared.Answer.{Answer}
@@ -31,13 +31,13 @@ use Rattle.chunks.specs.declared.Next.the-variants.{Fault, Frame}
 use Rattle.chunks.specs.declared.Extent.{Extent}
 use Rattle.chunks.specs.declared.Extent.the-variants as extent-is
 use Rattle.chunks.specs.Headers.{headerAt, frameHeader}
-use Rattle.chunks.specs.Spans.{Span, span, Spans, spanned, afterHeader, subSpans, framed, topAt, leftAfter, spansWithin, spans, onlyFrames, frameSpans, firstOf, nextAt, frameAt, endOf, extentOf, extent, offsets, Found, found, topFrames}
+use Rattle.chunks.specs.Spans.{Span, span, Spans, walked, afterHeader, subSpans, framed, topAt, leftAfter, spansWithin, spans, onlyFrames, frameSpans, firstOf, nextAt, frameAt, endOf, extentOf, extent, offsets, Found, found, topFrames}
 use Rattle.chunks.proofs.Headers.{required, HeaderIn, header-in, FrameIn, frame-in}
 
 -- subSpans
 
 module _ (b : List ℕ) where
-  pub subs-none : (count at : ℕ) → count ≤ 0 → subSpans b count at ≡ spanned [] Done
+  pub subs-none : (count at : ℕ) → count ≤ 0 → subSpans b count at ≡ walked [] Done
   unfolding subSpans
   subs-none zero at i = refl
   subs-none (suc count) at i = absurd (not-suc-le-zero i)
@@ -49,10 +49,10 @@ module _ (b : List ℕ) where
 
   -- sub-chunks one after the other: what holds of none, of a fault, and of a sub-chunk and then the rest
   module _ (C : ℕ → ℕ → Spans → Type 0)
-      (none : (at : ℕ) → C 0 at (spanned [] Done))
-      (fault : (count at : ℕ) (e : Refusal) → headerAt b at ≡ chunk.Fault e → C (suc count) at (spanned [] (Refused e at)))
+      (none : (at : ℕ) → C 0 at (walked [] Done))
+      (fault : (count at : ℕ) (e : Refusal) → headerAt b at ≡ chunk.Fault e → C (suc count) at (walked [] (Refused e at)))
       (more : (count at kind end : ℕ) → headerAt b at ≡ chunk.Chunk kind end → C count end (subSpans b count end)
-      → C (suc count) at (spanned (span kind at end ∷ subSpans b count end .met) (subSpans b count end .answer))) where
+      → C (suc count) at (walked (span kind at end ∷ subSpans b count end .met) (subSpans b count end .answer))) where
     pub subs-by : (count at : ℕ) → C count at (subSpans b count at)
     unfolding subSpans
     subs-by zero at = none at
@@ -120,7 +120,7 @@ module _ (layout : Layout) (b : List ℕ) where
   after-same : (at : ℕ) (x : Header) (f g : ℕ → ℕ → Spans) → TopIn b at x → ((kind end : ℕ) → at + 6 ≤ end → end ≤ length b → f kind end ≡ g kind end)
       → afterHeader at x f ≡ afterHeader at x g
   after-same at (chunk.Fault e) f g i h = refl
-  after-same at (chunk.Chunk kind end) f g i h = ap (λ (r : Spans). spanned (span kind at end ∷ r .met) (r .answer)) (h kind end (i .0) (i .1))
+  after-same at (chunk.Chunk kind end) f g i h = ap (λ (r : Spans). walked (span kind at end ∷ r .met) (r .answer)) (h kind end (i .0) (i .1))
 
   -- any number of chunks that is enough gives the same
   within-enough : (l m count at : ℕ) → 0 < l → 0 < m → length b < at + l → length b < at + m → spansWithin l layout b count at ≡ spansWithin m layout b count at
@@ -132,7 +132,7 @@ module _ (layout : Layout) (b : List ℕ) where
       after-same at (topAt layout b at) (λ kind end. spansWithin l layout b (leftAfter kind count) end) (λ kind end. spansWithin m layout b (leftAfter kind count) end)
       (top-in layout b at _ refl) (λ kind end i j. within-enough l m (leftAfter kind count) end (omega arith) (omega arith) (omega arith) (omega arith))
 
-  pub spans-none : (at : ℕ) → spans layout b 0 at ≡ spanned [] Done
+  pub spans-none : (at : ℕ) → spans layout b 0 at ≡ walked [] Done
   unfolding spans
   spans-none at = refl
 
@@ -144,10 +144,10 @@ module _ (layout : Layout) (b : List ℕ) where
 
   -- chunks one after the other: what holds where no frame is asked for, where a fault stands, and of a chunk and then the rest
   module _ (C : ℕ → ℕ → Spans → Type 0)
-      (none : (at : ℕ) → C 0 at (spanned [] Done))
-      (fault : (count at : ℕ) (e : Refusal) → topAt layout b at ≡ chunk.Fault e → C (suc count) at (spanned [] (Refused e at)))
+      (none : (at : ℕ) → C 0 at (walked [] Done))
+      (fault : (count at : ℕ) (e : Refusal) → topAt layout b at ≡ chunk.Fault e → C (suc count) at (walked [] (Refused e at)))
       (more : (count at kind end : ℕ) → topAt layout b at ≡ chunk.Chunk kind end → C (leftAfter kind count) end (spans layout b (leftAfter kind count) end)
-      → C (suc count) at (spanned (span kind at end ∷ spans layout b (leftAfter kind count) end .met) (spans layout b (leftAfter kind count) end .answer))) where
+      → C (suc count) at (walked (span kind at end ∷ spans layout b (leftAfter kind count) end .met) (spans layout b (leftAfter kind count) end .answer))) where
     by-spans : (left count at : ℕ) → 0 < left → length b < at + left → C count at (spans layout b count at)
     by-spans zero count at z h = absurd (not-suc-le-zero z)
     by-spans (suc left) zero at z h = subst (C 0 at) (sym (spans-none at)) (none at)
@@ -167,9 +167,9 @@ module _ (layout : Layout) (b : List ℕ) where
   -- frameSpans
 
   abbrev filtered : Spans → Spans
-  filtered s = spanned (onlyFrames (s .met)) (s .answer)
+  filtered s = walked (onlyFrames (s .met)) (s .answer)
 
-  pub frames-over : (at : ℕ) → frameSpans layout b 0 at ≡ spanned [] Done
+  pub frames-over : (at : ℕ) → frameSpans layout b 0 at ≡ walked [] Done
   unfolding frameSpans
   frames-over at = ap filtered (spans-none at)
 
@@ -178,12 +178,12 @@ module _ (layout : Layout) (b : List ℕ) where
     unfolding frameSpans
     filtered-more x q = ap filtered (spans-more count at ∙ ap (λ (y : Header). afterHeader at y (λ kind end. spans layout b (leftAfter kind count) end)) q)
 
-    frames-fault : (e : Refusal) → topAt layout b at ≡ chunk.Fault e → frameSpans layout b (suc count) at ≡ spanned [] (Refused e at)
+    frames-fault : (e : Refusal) → topAt layout b at ≡ chunk.Fault e → frameSpans layout b (suc count) at ≡ walked [] (Refused e at)
     unfolding onlyFrames
     frames-fault e q = filtered-more (chunk.Fault e) q
 
     frames-here : (end : ℕ) → topAt layout b at ≡ chunk.Chunk FRAME-TYPE end
-        → frameSpans layout b (suc count) at ≡ spanned (span FRAME-TYPE at end ∷ frameSpans layout b count end .met) (frameSpans layout b count end .answer)
+        → frameSpans layout b (suc count) at ≡ walked (span FRAME-TYPE at end ∷ frameSpans layout b count end .met) (frameSpans layout b count end .answer)
     unfolding onlyFrames frameSpans
     frames-here end q = filtered-more (chunk.Chunk FRAME-TYPE end) q
 
@@ -232,8 +232,8 @@ module _ (layout : Layout) (b : List ℕ) where
 
 -- a frame, and then the rest of them
 abbrev pub afterNext : Next → (ℕ → Spans) → Spans
-afterNext (Fault e place) rest = spanned [] (Refused e place)
-afterNext (Frame from end) rest = spanned (span FRAME-TYPE from end ∷ rest end .met) (rest end .answer)
+afterNext (Fault e place) rest = walked [] (Refused e place)
+afterNext (Frame from end) rest = walked (span FRAME-TYPE from end ∷ rest end .met) (rest end .answer)
 
 pub frameSpans-next : (layout : Layout) (b : List ℕ) (count at : ℕ) → frameSpans layout b (suc count) at ≡ afterNext (nextAt layout b at) (λ end. frameSpans layout b count end)
 frameSpans-next layout b count at =
@@ -247,7 +247,7 @@ frameSpans-step layout b (suc count) at i x q =
     frameSpans-next layout b count at
     ∙ ap₂ (λ (y : Next) (k : ℕ). afterNext y (λ end. frameSpans layout b k end)) q (sym (sub-one (suc count)))
 
-pub frameSpans-none : (layout : Layout) (b : List ℕ) (count at : ℕ) → count ≤ 0 → frameSpans layout b count at ≡ spanned [] Done
+pub frameSpans-none : (layout : Layout) (b : List ℕ) (count at : ℕ) → count ≤ 0 → frameSpans layout b count at ≡ walked [] Done
 frameSpans-none layout b zero at i = frames-over layout b at
 frameSpans-none layout b (suc count) at i = absurd (not-suc-le-zero i)
 
@@ -366,10 +366,10 @@ module _ (b : List ℕ) (count at : ℕ) where
 
 -- frames of a file one after the other: what holds where none is asked for, where the next is refused, and where it is met and then of the rest
 module _ (b : List ℕ) (C : ℕ → ℕ → Spans → Type 0)
-    (none : (at : ℕ) → C 0 at (spanned [] Done))
-    (fault : (count at : ℕ) (e : Refusal) (place : ℕ) → nextAt Loose b at ≡ Fault e place → C (suc count) at (spanned [] (Refused e place)))
+    (none : (at : ℕ) → C 0 at (walked [] Done))
+    (fault : (count at : ℕ) (e : Refusal) (place : ℕ) → nextAt Loose b at ≡ Fault e place → C (suc count) at (walked [] (Refused e place)))
     (more : (count at from end : ℕ) → nextAt Loose b at ≡ Frame from end → C count end (frameSpans Loose b count end)
-    → C (suc count) at (spanned (span FRAME-TYPE from end ∷ frameSpans Loose b count end .met) (frameSpans Loose b count end .answer))) where
+    → C (suc count) at (walked (span FRAME-TYPE from end ∷ frameSpans Loose b count end .met) (frameSpans Loose b count end .answer))) where
   pub frameSpans-by : (count at : ℕ) → C count at (frameSpans Loose b count at)
   frameSpans-by zero at = subst (C 0 at) (sym (frames-over Loose b at)) (none at)
   frameSpans-by (suc count) at = subst (C (suc count) at) (sym (frameSpans-next Loose b count at)) (go (nextAt Loose b at) refl (λ end. frameSpans-by count end))

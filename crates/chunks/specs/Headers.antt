@@ -4,7 +4,7 @@ use mathlib.Core.List.{List}
 use lib.ListN.{length}
 use lib.Dec.{leb, eqb}
 use Rattle.words.specs.Words.{require_else_then_, u16At, u32At}
-use Rattle.answer.specs.Format.{FRAME-TYPE}
+use Rattle.format.specs.Format.{FRAME-TYPE}
 use Rattle.answer.specs.declared.Refusal.the-variants.{Cut, WrongType, SmallSize}
 use Rattle.chunks.specs.declared.FrameHeader.{FrameHeader}
 use Rattle.chunks.specs.declared.FrameHeader.the-variants as whole

@@ -6,7 +6,7 @@ use mathlib.Core.Bool.{cond}
 use lib.ListN.{length, drop}
 use lib.Dec.{leb, eqb}
 use Rattle.words.specs.Words.{require_else_then_, u16At}
-use Rattle.answer.specs.Format.{FRAME-TYPE}
+use Rattle.format.specs.Format.{FRAME-TYPE}
 use Rattle.answer.specs.declared.Refusal.the-variants.{FewFrames}
 use Rattle.answer.specs.declared.Answer.{Answer}
 use Rattle.answer.specs.declared.Answer.the-variants.{Done, Refused}
@@ -40,18 +40,18 @@ pub record Spans : Type 0 where
   pub met : List Span
   pub answer : Answer
 
-abbrev pub spanned : List Span → Answer → Spans
-spanned ss a = record { met = ss; answer = a }
+abbrev pub walked : List Span → Answer → Spans
+walked ss a = record { met = ss; answer = a }
 
 -- the chunk whose header stands at offset at, and then the rest; a fault has "the offset .. of the chunk header at fault"
 abbrev pub afterHeader : ℕ → Header → (ℕ → ℕ → Spans) → Spans
-afterHeader at (chunk.Fault e) rest = spanned [] (Refused e at)
-afterHeader at (chunk.Chunk kind end) rest = spanned (span kind at end ∷ rest kind end .met) (rest kind end .answer)
+afterHeader at (chunk.Fault e) rest = walked [] (Refused e at)
+afterHeader at (chunk.Chunk kind end) rest = walked (span kind at end ∷ rest kind end .met) (rest kind end .answer)
 
 -- "Then as many sub-chunks as the count says": count of them from offset at on
 unfoldable pub subSpans : List ℕ → ℕ → ℕ → Spans
 unfolding headerAt
-subSpans b zero at = spanned [] Done
+subSpans b zero at = walked [] Done
 subSpans b (suc count) at = afterHeader at (headerAt b at) (λ kind end. subSpans b count end)
 
 -- the frame that must begin at offset at: its header as that of a single frame, "length present (4), type (5 ..), size too small (6), size too large (4)"
@@ -76,8 +76,8 @@ leftAfter kind count = cond (eqb kind FRAME-TYPE) count (suc count)
 unfoldable pub spansWithin : ℕ → Layout → List ℕ → ℕ → ℕ → Spans
 unfolding topAt
 -- a formality: a list of bytes has fewer chunks than `spans` allows
-spansWithin zero layout b count at = spanned [] (Refused FewFrames at)
-spansWithin (suc chunks) layout b zero at = spanned [] Done
+spansWithin zero layout b count at = walked [] (Refused FewFrames at)
+spansWithin (suc chunks) layout b zero at = walked [] Done
 spansWithin (suc chunks) layout b (suc count) at = afterHeader at (topAt layout b at) (λ kind end. spansWithin chunks layout b (leftAfter kind count) end)
 
 -- every top-level chunk from offset at on up to the last of count frames, those stepped over too; "no sub-chunk is opened"
@@ -93,7 +93,7 @@ onlyFrames (s ∷ ss) = cond (eqb (s .kind) FRAME-TYPE) (s ∷ onlyFrames ss) (o
 -- count frames from offset at on
 unfoldable pub frameSpans : Layout → List ℕ → ℕ → ℕ → Spans
 unfolding spans onlyFrames
-frameSpans layout b count at = spanned (onlyFrames (spans layout b count at .met)) (spans layout b count at .answer)
+frameSpans layout b count at = walked (onlyFrames (spans layout b count at .met)) (spans layout b count at .answer)
 
 -- the first of some frames, else how the walk to it is answered; the last line is a formality: a walk to one frame or more that is done has met it
 abbrev pub firstOf : List Span → Answer → Next

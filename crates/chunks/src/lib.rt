@@ -6,8 +6,8 @@ ghost use lib.ListN.{length};
 ghost use Rattle.chunks.specs.Headers.{headerAt, frameHeader};
 ghost use Rattle.chunks.specs.declared.Layout.the-variants.{Loose, Packed};
 ghost use Rattle.chunks.specs.Spans.{HEADER-BYTES, nextAt, frameAt, extent};
-use answer::FRAME_TYPE;
 use answer::Refusal;
+use format::FRAME_TYPE;
 
 // The bytes of a chunk's header, and of a frame's.
 pub const CHUNK_HEADER: usize = 6;

@@ -2,7 +2,7 @@
 -- The entries are gaps and stretches (`split`), and the walk goes a packet for each stretch: it leaves a gap as it is, and puts a stretch's entries in their place.
 use mathlib.Core.Path.{_≡_, refl, sym, ap, ap₂, _∙_}
 use mathlib.Core.List.{List, [], _∷_, _++_, map, append-assoc, flatMap}
-use mathlib.Core.Bool.{true, false}
+use mathlib.Core.Bool.{true}
 use Prim.Native.Nat.{ℕ, zero, suc, _+_, _-_, _*_, _%_, _≤_}
 use native.Mathlib.Omega.{arith}
 use native.Mathlib.Nat.{add-zero}
@@ -11,11 +11,12 @@ use lib.Seq.{take-all}
 use Rattle.words.specs.Words.{le16}
 use Rattle.words.specs.Writes.{put}
 use Rattle.words.proofs.There.{there-drop, there-take, there-byte, there-long, there-le16, put-at}
-use Rattle.answer.proofs.Gives.{Gives, gives-ends, gives-then, gives-as, gives-to}
-use Rattle.colour.specs.Colour as walk
-use Rattle.colour.specs.Colour.{level, levelsOk, countOf, packetAt}
-use Rattle.colour.specs.declared.Packet.the-variants.{Colours}
-use Rattle.colour.proofs.Laws.{packet-at, packet-whole, packets-more, packets-none, colours-open, level-same}
+use Rattle.walk.proofs.Gives.{Gives, gives-ends, gives-then, gives-as, gives-to}
+use Rattle.read_colour.specs.Colour as walk
+use Rattle.read_colour.specs.Colour.{level, levelsOk, countOf, packetAt}
+use Rattle.read_colour.specs.declared.Levels.the-variants.{Of256}
+use Rattle.read_colour.specs.declared.ColourStep.the-variants.{Colours}
+use Rattle.read_colour.proofs.Laws.{packet-at, packet-whole, packets-more, packets-none, colours-open}
 use Rattle.words.proofs.Runs.{map-same}
 use Rattle.house_cells.specs.Cells.{Cell, cells, news, Stretch, stretches}
 use Rattle.house_cells.proofs.CellLaws.{olds, Sized, sized-append, olds-append, news-append, length-olds, length-news, sized-cells, length-cells, olds-cells, news-cells, Split, rest, part, split}
@@ -23,10 +24,13 @@ use Rattle.house_colour.specs.Colours.{changedEntries, colourPacket, col
 
 -- a packet
 
-levels-all : (xs : List ℕ) → levelsOk false xs ≡ true
+levels-all : (xs : List ℕ) → levelsOk Of256 xs ≡ true
 unfolding levelsOk
-levels-all [] = refl
-levels-all (x ∷ xs) = levels-all xs
+levels-all xs = refl
+
+level-same : (x : ℕ) → level Of256 x ≡ x
+unfolding level
+level-same x = refl
 
 -- a count of 256 is written as 0
 count-back : (n : ℕ) → 1 ≤ n → n ≤ 256 → countOf (n % 256) ≡ n
@@ -41,8 +45,8 @@ module _ (b : List ℕ) where
   -- the packet of skip k and count c, m entries, whose colours v come in the place of old
   packet-gives : (n at i k c m : ℕ) (v more front old z e : List ℕ) (end : ℕ)
       → drop at b ≡ k ∷ c ∷ (v ++ more) → countOf c ≡ m → length v ≡ 3 * m → length old ≡ 3 * m → length front ≡ 3 * (i + k) → i + k + m ≤ 256
-      → Gives (walk.packets false b n (at + 2 + 3 * m) (i + k + m)) end (front ++ (v ++ z)) e
-      → Gives (walk.packets false b (suc n) at i) end (front ++ (old ++ z)) e
+      → Gives (walk.packets Of256 b n (at + 2 + 3 * m) (i + k + m)) end (front ++ (v ++ z)) e
+      → Gives (walk.packets Of256 b (suc n) at i) end (front ++ (old ++ z)) e
   packet-gives n at i k c m v more front old z e end there em lv lo lf fits after =
       let data′ : drop (at + 2) b ≡ v ++ more = there-drop b (k ∷ c ∷ []) (v ++ more) at 2 there refl in
       let lvm = length-append v more in
@@ -50,23 +54,23 @@ module _ (b : List ℕ) where
       let all = there-long b (k ∷ c ∷ (v ++ more)) at (2 + 3 * m) there (omega arith) (omega arith) in
       let skip : getD b at 0 ≡ k = ap (λ (j : ℕ). getD b j 0) (sym (add-zero at)) ∙ there-byte b (k ∷ c ∷ (v ++ more)) at 0 k there refl in
       let count : getD b (at + 1) 0 ≡ c = there-byte b (k ∷ c ∷ (v ++ more)) at 1 c there refl in
-      let whole : Colours (at + 2) (3 * (i + k)) (3 * m) (i + k + m) ≡ packetAt false b at i =
-      sym (packet-whole false b at (i + k) m (omega arith) fits (levels-all (take (3 * m) (drop (at + 2) b))))
-      ∙ packet-at false b at i (i + k) m two (ap (λ (j : ℕ). i + j) (sym skip)) (sym em ∙ ap countOf (sym count)) in
-      let px : map (level false) (take (3 * m) (drop (at + 2) b)) ≡ v = map-same (level false) level-same (take (3 * m) (drop (at + 2) b)) ∙ there-take b v more (at + 2) (3 * m) data′ lv in
+      let whole : Colours (at + 2) (3 * (i + k)) (3 * m) (i + k + m) ≡ packetAt Of256 b at i =
+      sym (packet-whole Of256 b at (i + k) m (omega arith) fits (levels-all (take (3 * m) (drop (at + 2) b))))
+      ∙ packet-at Of256 b at i (i + k) m two (ap (λ (j : ℕ). i + j) (sym skip)) (sym em ∙ ap countOf (sym count)) in
+      let px : map (level Of256) (take (3 * m) (drop (at + 2) b)) ≡ v = map-same (level Of256) level-same (take (3 * m) (drop (at + 2) b)) ∙ there-take b v more (at + 2) (3 * m) data′ lv in
       let less : suc n - 1 ≡ n = omega arith in
-      gives-as (packets-more false b (suc n) at i (omega arith) (at + 2) (3 * (i + k)) (3 * m) (i + k + m) whole)
-      (gives-then (3 * (i + k)) (map (level false) (take (3 * m) (drop (at + 2) b))) (front ++ (v ++ z))
+      gives-as (packets-more Of256 b (suc n) at i (omega arith) (at + 2) (3 * (i + k)) (3 * m) (i + k + m) whole)
+      (gives-then (3 * (i + k)) (map (level Of256) (take (3 * m) (drop (at + 2) b))) (front ++ (v ++ z))
       (ap (λ (l : List ℕ). put (front ++ (old ++ z)) (3 * (i + k)) l) px ∙ put-at front old v z (3 * (i + k)) lf (omega arith))
-      (gives-as (ap (λ (j : ℕ). walk.packets false b j (at + 2 + 3 * m) (i + k + m)) less) after))
+      (gives-as (ap (λ (j : ℕ). walk.packets Of256 b j (at + 2 + 3 * m) (i + k + m)) less) after))
 
   -- the packets, entry i being the next
   packets-give : {ss : List Stretch} {cs : List Cell} → Split ss cs → Sized 3 cs → (at i : ℕ) (pre : List ℕ) (end : ℕ)
       → i + length cs ≡ 256 → drop at b ≡ flatMap colourPacket ss → end ≡ at + length (flatMap colourPacket ss) → length pre ≡ 3 * i
-      → Gives (walk.packets false b (length ss) at i) end (pre ++ olds cs) (pre ++ news cs)
+      → Gives (walk.packets Of256 b (length ss) at i) end (pre ++ olds cs) (pre ++ news cs)
   unfolding colourPacket flatMap
   packets-give (rest {cs} q) z at i pre end fits there ee lp =
-      gives-as (packets-none false b 0 at i (omega arith)) (gives-to (omega arith) refl (ap (λ (l : List ℕ). pre ++ l) q) (gives-ends at (pre ++ olds cs)))
+      gives-as (packets-none Of256 b 0 at i (omega arith)) (gives-to (omega arith) refl (ap (λ (l : List ℕ). pre ++ l) q) (gives-ends at (pre ++ olds cs)))
   packets-give (part {ss} still cs more c q m) z at i pre end fits there ee lp =
       let rs = c ∷ cs in
       let zs = sized-append 3 still (rs ++ more) z in
@@ -95,7 +99,7 @@ module _ (b : List ℕ) where
 -- the body
 
 pub colour-reads-back : (p q : List ℕ) → length p ≡ 768 → length q ≡ 768
-    → Gives (walk.colour false (colourBody p q)) (length (colourBody p q)) p q
+    → Gives (walk.colour Of256 (colourBody p q)) (length (colourBody p q)) p q
 unfolding colourBody changedEntries
 colour-reads-back p q lp lq =
     let cs = cells 3 256 p q in
@@ -103,7 +107,7 @@ colour-reads-back p q lp lq =
     let b = le16 (length ss) (flatMap colourPacket ss) in
     let was : olds cs ≡ p = olds-cells 3 256 p q ∙ take-all (256 * 3) p (omega arith) in
     let is : news cs ≡ q = news-cells 3 256 p q ∙ take-all (256 * 3) q (omega arith) in
-    gives-as (colours-open false b (length ss) (omega arith) (sym (there-le16 b (flatMap colourPacket ss) 0 (length ss) refl)))
+    gives-as (colours-open Of256 b (length ss) (omega arith) (sym (there-le16 b (flatMap colourPacket ss) 0 (length ss) refl)))
     (gives-to refl was is
     (packets-give b (split cs) (sized-cells 3 256 p q (omega arith) (omega arith)) 2 0 [] (length b)
     (omega (arith, length-cells 3 256 p q)) refl (omega arith) (omega arith)))

@@ -4,7 +4,7 @@ use mathlib.Core.List.{List, [], _∷_, _++_, flatten, flatMap}
 use mathlib.Core.Bool.{Bool, true, false, cond}
 use Prim.Native.Nat.{ℕ, zero, suc, pred, _+_, _-_, _*_, _≤_, min}
 use native.Mathlib.Omega.{arith}
-use native.Mathlib.Nat.{mul-le-mul-left, mul-le-mul-right}
+use native.Mathlib.Nat.{mul-le-mul-left}
 use lib.ListN.{length, take, drop, getD, length-append, length-drop}
 use lib.Seq.{length-take-le}
 use Rattle.words.proofs.Tests.{by-test}
@@ -31,11 +31,10 @@ module _ (least k : ℕ) (vs : List (List ℕ)) where
   pub packet-sizes : (unitsOf (firstPacket least k vs) ≡ unitsOf (firstPacket least 0 vs))
       × (length (packetBytes (firstPacket least k vs)) ≡ length (packetBytes (firstPacket least 0 vs)))
   unfolding firstPacket packetBytes
-  packet-sizes = go (repeats least vs)
-    where
-      go : (t : Bool) → (unitsOf (either k t) ≡ unitsOf (either 0 t)) × (length (packetBytes (either k t)) ≡ length (packetBytes (either 0 t)))
-      go true = (refl, refl)
-      go false = (refl, refl)
+  packet-sizes =
+      by-test (λ t. (unitsOf (either k t) ≡ unitsOf (either 0 t)) × (length (packetBytes (either k t)) ≡ length (packetBytes (either 0 t)))) (repeats least vs)
+      (λ e. (refl, refl))
+      (λ e. (refl, refl))
 
 repeat-bytes : (k n : ℕ) (v : List ℕ) → packetBytes (repeat k n v) ≡ k ∷ (256 - n) ∷ v
 unfolding packetBytes

@@ -10,11 +10,11 @@ use Rattle.words.specs.Words.{magnitude}
 use Rattle.words.specs.Writes.{put}
 use Rattle.words.proofs.Laws.{magnitude-plus, magnitude-minus}
 use Rattle.words.proofs.There.{there-drop, there-take, there-byte, there-long, put-at}
-use Rattle.answer.proofs.Gives.{Gives, gives-ends, gives-then, gives-as, gives-to}
-use Rattle.packets.specs.Packets as walk
-use Rattle.packets.specs.Packets.{repeated, dataBytes, pixels, packetOf, packetAt}
-use Rattle.packets.specs.declared.Packet.the-variants.{Pixels}
-use Rattle.packets.proofs.Laws.{length-repeated, data-copy, data-repeat, pixels-copy, pixels-repeat, packets-none, packets-more}
+use Rattle.walk.proofs.Gives.{Gives, gives-ends, gives-then, gives-as, gives-to}
+use Rattle.read_packets.specs.Packets as walk
+use Rattle.read_packets.specs.Packets.{repeated, dataBytes, pixels, packetOf, packetAt}
+use Rattle.read_packets.specs.declared.PacketStep.the-variants.{Pixels}
+use Rattle.read_packets.proofs.Laws.{length-repeated, data-copy, data-repeat, pixels-copy, pixels-repeat, packets-none, packets-more}
 use Rattle.house_packets.specs.Packets.{Packet, packetBytes, bytes}
 use Rattle.house_packets.proofs.Turns.{Turns, done, copied, again}
 

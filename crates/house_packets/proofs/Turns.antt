@@ -2,7 +2,7 @@
 -- A packet takes the first units of a stretch (`First`), the packets of a stretch take them all, and a gap stays as it is.
 use mathlib.Core.Path.{_≡_, refl, sym, ap, ap₂, _∙_, subst}
 use mathlib.Core.List.{List, [], _∷_, _++_, append-assoc, map, flatten, flatMap}
-use mathlib.Core.Bool.{Bool, true, false, cond}
+use mathlib.Core.Bool.{true, false, cond}
 use Prim.Native.Nat.{ℕ, zero, suc, _+_, _-_, _*_, _≤_, _<_, min}
 use native.Mathlib.Omega.{arith}
 use native.Mathlib.Nat.{mul-le-mul, mul-div-le}
@@ -11,10 +11,10 @@ use lib.Seq.{length-take-le, drop-drop}
 use Rattle.words.specs.Words.{same}
 use Rattle.words.proofs.Laws.{same-eq}
 use Rattle.words.proofs.Tests.{by-test}
-use Rattle.packets.specs.Packets.{repeated}
+use Rattle.read_packets.specs.Packets.{repeated}
 use Rattle.house_cells.specs.Cells.{Cell, cells, news, Stretch}
 use Rattle.house_cells.proofs.CellLaws.{olds, Sized, sized-append, sized-take, sized-drop, olds-append, news-append, length-olds, length-news, sized-cells, olds-cells, news-cells, Split, rest, part, split}
-use Rattle.house_packets.specs.Packets.{Packet, copy, repeat, bytes, unitsOf, equals, repeats, upToRepeat, firstPacket, unitPackets, shortenings, gapPackets, stretchPackets, rowPackets}
+use Rattle.house_packets.specs.Packets.{Packet, copy, repeat, unitsOf, equals, repeats, upToRepeat, firstPacket, unitPackets, shortenings, gapPackets, stretchPackets, rowPackets}
 use Rattle.house_packets.specs.Units.{Form}
 use Rattle.house_packets.proofs.UnitLaws.{equals-itself, equals-le, until-some, until-le}
 use Rattle.house_packets.proofs.PacketLaws.{packet-repeat, packet-copy, packets-next}

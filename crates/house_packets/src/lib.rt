@@ -6,14 +6,14 @@ ghost use Prim.Native.Nat.{_+_, _*_, _≤_, _<_, min};
 ghost use lib.ListN.{length};
 ghost use Rattle.words.specs.Words.{same};
 ghost use Rattle.words.specs.Writes.{put};
-ghost use Rattle.answer.specs.Answer.{maxWidth};
+ghost use Rattle.format.specs.Limits.{Wide};
 ghost use Rattle.house_packets.specs.Packets.{bytes, equals, repeats, upToRepeat, unitPackets, shortenings, gapPackets, rowPackets};
 ghost use Rattle.house_packets.specs.Units.{Form, unitAt, unitsAt, PacketAt, emptyPackets, Stores};
 
 // A packet to be stored: how many units it takes, its type, how many bytes of data it has.
 struct Planned {
     units: usize,
-    kind: usize,
+    code: usize,
     len: usize,
 }
 
@@ -90,13 +90,13 @@ fn up_to_repeat(b: &[u8], unit: usize, least: usize, x: usize, m: usize) -> usiz
 // The first packet of m units from unit x on. A packet takes 127 units at most, so no more than these and a repeat's next are looked at.
 fn packet_at(b: &[u8], unit: usize, least: usize, x: usize, m: usize) -> Planned
     requires { ⌜ (1 ≤ unit) × (unit ≤ 2) × (1 ≤ least) × (least ≤ 127) × (1 ≤ m) × ((x + m) * unit ≤ length (now b)) ⌝ }
-    ensures { λ r. ⌜ PacketAt unit least (now (b .entry)) x m (r .units) (r .kind) (r .len) ⌝ }
+    ensures { λ r. ⌜ PacketAt unit least (now (b .entry)) x m (r .units) (r .code) (r .len) ⌝ }
 {
     if repeats_at(b, unit, least, x, m) {
         let n = equals_of(b, unit, x, x, smaller(127, m));
         return Planned {
             units: n,
-            kind: 256 - n,
+            code: 256 - n,
             len: unit,
         };
     }
@@ -106,7 +106,7 @@ fn packet_at(b: &[u8], unit: usize, least: usize, x: usize, m: usize) -> Planned
     );
     Planned {
         units: n,
-        kind: n,
+        code: n,
         len: n * unit,
     }
 }
@@ -132,7 +132,7 @@ fn gap_size(
     m: usize,
     g: usize,
 ) -> usize
-    requires { ⌜ Form unit least longest × ((x + m) * unit ≤ length (now b)) × (g ≤ maxWidth) × (m ≤ maxWidth) ⌝ }
+    requires { ⌜ Form unit least longest × ((x + m) * unit ≤ length (now b)) × Wide g × Wide m ⌝ }
     ensures { λ r. ⌜ (r ≡ length (bytes (gapPackets least longest g (unitsAt unit (now (b .entry)) x m)))) × (r ≤ 2 * g + 4 * m) ⌝ }
 {
     let mut i = x;
@@ -149,7 +149,7 @@ fn gap_size(
 
 // The bytes of the packets of a row of n units.
 pub fn row_size(a: &[u8], b: &[u8], unit: usize, least: usize, longest: usize, n: usize) -> usize
-    requires { ⌜ Form unit least longest × (n * unit ≤ maxWidth) × (n * unit ≤ length (now a)) × (n * unit ≤ length (now b)) ⌝ }
+    requires { ⌜ Form unit least longest × Wide (n * unit) × (n * unit ≤ length (now a)) × (n * unit ≤ length (now b)) ⌝ }
     ensures { λ r. ⌜ (r ≡ length (bytes (rowPackets unit least longest n (now (a .entry)) (now (b .entry))))) × (r ≤ 4 * n) ⌝ }
 {
     let mut i = 0;
@@ -189,7 +189,7 @@ fn put_units(
     m: usize,
     k: usize,
 ) -> Stored
-    requires { ⌜ (1 ≤ unit) × (unit ≤ 2) × (1 ≤ least) × (least ≤ 127) × ((x + m) * unit ≤ length (now b)) × (k < 256) × (m ≤ maxWidth)
+    requires { ⌜ (1 ≤ unit) × (unit ≤ 2) × (1 ≤ least) × (least ≤ 127) × ((x + m) * unit ≤ length (now b)) × (k < 256) × Wide m
         × (at + length (bytes (unitPackets least k 0 (unitsAt unit (now b) x m))) ≤ length (now out)) ⌝ }
     ensures { λ r. ⌜ Stores (unitPackets least k 0 (unitsAt unit (now (b .entry)) x m)) (now (out .entry)) at (now (out .exit)) (r .count) (r .end) × (r .count ≤ m) ⌝ }
 {
@@ -202,7 +202,7 @@ fn put_units(
         let p = packet_at(b, unit, least, i, left);
         let from = i * unit;
         let to = from + p.len;
-        here = house_cells::put_packet(out, here, skip, p.kind, &b[from..to]);
+        here = house_cells::put_packet(out, here, skip, p.code, &b[from..to]);
         skip = 0;
         i += p.units;
         left -= p.units;
@@ -226,7 +226,7 @@ fn put_gap(
     m: usize,
     g: usize,
 ) -> Stored
-    requires { ⌜ Form unit least longest × ((x + m) * unit ≤ length (now b)) × (g ≤ maxWidth) × (m ≤ maxWidth)
+    requires { ⌜ Form unit least longest × ((x + m) * unit ≤ length (now b)) × Wide g × Wide m
         × (at + length (bytes (gapPackets least longest g (unitsAt unit (now b) x m))) ≤ length (now out)) ⌝ }
     ensures { λ r. ⌜ Stores (gapPackets least longest g (unitsAt unit (now (b .entry)) x m)) (now (out .entry)) at (now (out .exit)) (r .count) (r .end) × (r .count ≤ g + m) ⌝ }
 {
@@ -250,7 +250,7 @@ pub fn put_row(
     longest: usize,
     n: usize,
 ) -> Stored
-    requires { ⌜ Form unit least longest × (n * unit ≤ maxWidth) × (n * unit ≤ length (now a)) × (n * unit ≤ length (now b))
+    requires { ⌜ Form unit least longest × Wide (n * unit) × (n * unit ≤ length (now a)) × (n * unit ≤ length (now b))
         × (at + length (bytes (rowPackets unit least longest n (now a) (now b))) ≤ length (now out)) ⌝ }
     ensures { λ r. ⌜ Stores (rowPackets unit least longest n (now (a .entry)) (now (b .entry))) (now (out .entry)) at (now (out .exit)) (r .count) (r .end) × (r .count ≤ 2 * n) ⌝ }
 {

@@ -1,5 +1,5 @@
 -- A line reads back: its words say what they were written for, and its packets turn the row (`Turns`, in house_packets).
-use mathlib.Core.Path.{_≡_, refl, sym, ap, ap₂, _∙_}
+use mathlib.Core.Path.{_≡_, refl, sym, ap, _∙_}
 use mathlib.Core.List.{List, [], _∷_, _++_, append-assoc}
 use mathlib.Core.Bool.{Bool, true, false, not, cond}
 use Prim.Native.Nat.{ℕ, suc, _+_, _-_, _*_, _/_, _%_, _≤_, _<_}
@@ -13,15 +13,15 @@ use Rattle.words.specs.Writes.{put}
 use Rattle.words.proofs.Laws.{false-not-true, bytes-getD}
 use Rattle.words.proofs.There.{there-drop, there-long, there-word, there-le16, put-at}
 use Rattle.words.proofs.Tests.{by-test}
-use Rattle.answer.specs.Answer.{maxWidth}
-use Rattle.answer.proofs.Gives.{Gives, gives-then, gives-followed, gives-as, gives-to}
-use Rattle.packets.specs.Packets as walk
-use Rattle.ss2.specs.Ss2.{byHigh, wordOf, lineAt, lineWalk}
-use Rattle.ss2.specs.declared.Word.the-variants.{Count, Last, Skip}
-use Rattle.ss2.specs.declared.LastPixel.{LastPixel}
-use Rattle.ss2.specs.declared.LastPixel.the-variants.{Kept, Set}
-use Rattle.ss2.specs.declared.Line.the-variants.{Row}
-use Rattle.ss2.proofs.Laws.{last-there, line-there, linesFrom, lines-row}
+use Rattle.format.specs.Limits.{Wide}
+use Rattle.walk.proofs.Gives.{Gives, gives-then, gives-followed, gives-as, gives-to}
+use Rattle.read_packets.specs.Packets as walk
+use Rattle.read_ss2.specs.Ss2.{byHigh, wordOf, lineAt, lineWalk}
+use Rattle.read_ss2.specs.declared.Word.the-variants.{Count, Last, Skip}
+use Rattle.read_ss2.specs.declared.LastPixel.{LastPixel}
+use Rattle.read_ss2.specs.declared.LastPixel.the-variants.{Kept, Set}
+use Rattle.read_ss2.specs.declared.Line.the-variants.{Row}
+use Rattle.read_ss2.proofs.Laws.{last-there, line-there, linesFrom, lines-row}
 use Rattle.house_cells.specs.Cells.{Cell}
 use Rattle.house_packets.specs.Packets.{Packet, bytes}
 use Rattle.house_packets.proofs.Turns.{Turns, turns-count, row-turns}
@@ -125,7 +125,7 @@ unfolding line counted
 line-is w r t e =
     ap (λ (b : Bool). cond b (getD (r .new) (w - 1) 0 ∷ 128 ∷ le16 (length (linePackets w r)) (bytes (linePackets w r))) (le16 (length (linePackets w r)) (bytes (linePackets w r)))) e
 
-pub line-gives : (w h : ℕ) (b : List ℕ) (r : Cell) → 1 ≤ w → w ≤ maxWidth → length (r .old) ≡ w → length (r .new) ≡ w → Bytes (r .new)
+pub line-gives : (w h : ℕ) (b : List ℕ) (r : Cell) → 1 ≤ w → Wide w → length (r .old) ≡ w → length (r .new) ≡ w → Bytes (r .new)
     → (row at n : ℕ) (pre post more : List ℕ) (end : ℕ) (e : List ℕ) → row < h → drop at b ≡ line w r ++ more → length pre ≡ row * w
     → Gives (linesFrom w h b n (row + 1) (at + length (line w r))) end (pre ++ (r .new ++ post)) e
     → Gives (linesFrom w h b (suc n) row at) end (pre ++ (r .old ++ post)) e

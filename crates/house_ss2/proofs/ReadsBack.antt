@@ -10,12 +10,12 @@ use borrow.Author.Tests.{lt-ltb}
 use Rattle.words.specs.Words.{le16, Bytes}
 use Rattle.words.proofs.Laws.{bytes-append}
 use Rattle.words.proofs.There.{there-drop, there-long, there-le16}
-use Rattle.answer.specs.Answer.{maxWidth, maxHeight}
-use Rattle.answer.proofs.Gives.{Gives, gives-ends, gives-as, gives-to}
-use Rattle.ss2.specs.Ss2.{wordOf, lineAt, ss2}
-use Rattle.ss2.specs.declared.Word.the-variants.{Skip}
-use Rattle.ss2.specs.declared.Line.the-variants.{Down}
-use Rattle.ss2.proofs.Laws.{line-there, linesFrom, lines-none, lines-down, ss2-open}
+use Rattle.format.specs.Limits.{Wide, High}
+use Rattle.walk.proofs.Gives.{Gives, gives-ends, gives-as, gives-to}
+use Rattle.read_ss2.specs.Ss2.{wordOf, lineAt, ss2}
+use Rattle.read_ss2.specs.declared.Word.the-variants.{Skip}
+use Rattle.read_ss2.specs.declared.Line.the-variants.{Down}
+use Rattle.read_ss2.proofs.Laws.{line-there, linesFrom, lines-none, lines-down, ss2-open}
 use Rattle.house_cells.specs.Cells.{Cell, cells, news, Stretch, stretches}
 use Rattle.house_cells.proofs.CellLaws.{olds, Sized, sized-append, olds-append, news-append, length-olds, length-news, sized-cells, length-cells, olds-cells, news-cells, Split, rest, part, split}
 use Rattle.house_ss2.specs.Line.{line}
@@ -28,7 +28,7 @@ module _ (w h : ℕ) (b : List ℕ) where
       ap (λ (x : ℕ). linesFrom w h b x row at) c ∙ ap₂ (λ (x y : ℕ). linesFrom w h b n′ x y) d e
 
   -- rows that follow one another
-  lines-give : (rs : List Cell) → 1 ≤ w → w ≤ maxWidth → Sized w rs → Bytes (news rs) → (row at n n′ : ℕ) (pre post more : List ℕ) (end : ℕ) (e : List ℕ)
+  lines-give : (rs : List Cell) → 1 ≤ w → Wide w → Sized w rs → Bytes (news rs) → (row at n n′ : ℕ) (pre post more : List ℕ) (end : ℕ) (e : List ℕ)
       → n′ ≡ length rs + n → row + length rs ≤ h → drop at b ≡ lines w rs ++ more → length pre ≡ row * w
       → Gives (linesFrom w h b n (row + length rs) (at + length (lines w rs))) end (pre ++ (news rs ++ post)) e
       → Gives (linesFrom w h b n′ row at) end (pre ++ (olds rs ++ post)) e
@@ -63,7 +63,7 @@ module _ (w h : ℕ) (b : List ℕ) where
       gives-as (lines-down w h b (suc n) row at (omega arith) (suc g) down (omega arith) fits) below
 
   -- the rows, row row being the next
-  rows-give : {ss : List Stretch} {cs : List Cell} → Split ss cs → 1 ≤ w → w ≤ maxWidth → h ≤ maxHeight → Sized w cs → Bytes (news cs)
+  rows-give : {ss : List Stretch} {cs : List Cell} → Split ss cs → 1 ≤ w → Wide w → High h → Sized w cs → Bytes (news cs)
       → (row at : ℕ) (pre : List ℕ) (end : ℕ) → row + length cs ≡ h → drop at b ≡ flatMap (stretchLines w) ss
       → end ≡ at + length (flatMap (stretchLines w) ss) → length pre ≡ row * w
       → Gives (linesFrom w h b (length (flatMap (λ (s : Stretch). s .changed) ss)) row at) end (pre ++ olds cs) (pre ++ news cs)
@@ -104,7 +104,7 @@ module _ (w h : ℕ) (b : List ℕ) where
 
 -- the body
 
-pub delta-reads-back : (w h : ℕ) (p q : List ℕ) → 1 ≤ w → w ≤ maxWidth → h ≤ maxHeight → length p ≡ w * h → length q ≡ w * h → Bytes q
+pub delta-reads-back : (w h : ℕ) (p q : List ℕ) → 1 ≤ w → Wide w → High h → length p ≡ w * h → length q ≡ w * h → Bytes q
     → Gives (ss2 w h (deltaBody w h p q)) (length (deltaBody w h p q)) p q
 unfolding deltaBody lineCount changedRows
 delta-reads-back w h p q some wide high lp lq small =

@@ -3,7 +3,7 @@ use Prim.Native.Nat.{ℕ, zero, suc, _+_, _-_, _*_}
 use mathlib.Core.List.{List, [], _++_, flatMap}
 use lib.ListN.{length}
 use Rattle.words.specs.Words.{le16}
-use Rattle.answer.specs.Answer.{maxHeight}
+use Rattle.format.specs.Limits.{maxHeight}
 use Rattle.house_cells.specs.Cells.{Cell, cells, Stretch, stretches}
 use Rattle.house_ss2.specs.Line.{line, lineMost}
 

@@ -5,7 +5,7 @@ use mathlib.Core.Bool.{Bool, false, not, cond}
 use lib.Dec.{eqb}
 use lib.ListN.{length, getD}
 use Rattle.words.specs.Words.{le16}
-use Rattle.answer.specs.Answer.{maxWidth}
+use Rattle.format.specs.Limits.{maxWidth}
 use Rattle.house_cells.specs.Cells.{Cell}
 use Rattle.house_packets.specs.Packets.{Packet, packetBytes, bytes, rowPackets}
 

@@ -5,7 +5,7 @@ ghost use mathlib.Core.List.{flatMap};
 ghost use Prim.Native.Nat.{_+_, _*_, _≤_};
 ghost use lib.ListN.{length};
 ghost use Rattle.words.specs.Writes.{put};
-ghost use Rattle.answer.specs.Answer.{maxWidth, maxHeight};
+ghost use Rattle.format.specs.Limits.{Wide, High};
 ghost use Rattle.house_cells.specs.Cells.{cellsAt};
 ghost use Rattle.house_ss2.specs.Line.{counted, lastChanges, line, lineMost};
 ghost use Rattle.house_ss2.specs.Delta.{lines, skipWord, stretchLines, changedRows, lineCount, deltaBody, deltaMost};
@@ -31,7 +31,7 @@ fn last_changes(a: &[u8], b: &[u8], width: usize) -> bool
 
 // The bytes of the line of a row.
 fn line_size(a: &[u8], b: &[u8], width: usize) -> usize
-    requires { ⌜ (1 ≤ width) × (width ≤ maxWidth) × (length (now a) ≡ width) × (length (now b) ≡ width) ⌝ }
+    requires { ⌜ (1 ≤ width) × Wide width × (length (now a) ≡ width) × (length (now b) ≡ width) ⌝ }
     ensures { λ r. ⌜ (r ≡ length (line width (row (now (a .entry)) (now (b .entry))))) × (r ≤ lineMost) ⌝ }
 {
     let size = house_packets::row_size(a, b, UNIT, LEAST, LONGEST, width / 2);
@@ -43,7 +43,7 @@ fn line_size(a: &[u8], b: &[u8], width: usize) -> usize
 
 // Stores the packet count and the packets of a row; answers where they end.
 fn put_counted(out: &mut [u8], at: usize, a: &[u8], b: &[u8], width: usize) -> usize
-    requires { ⌜ (width ≤ maxWidth) × (length (now a) ≡ width) × (length (now b) ≡ width)
+    requires { ⌜ Wide width × (length (now a) ≡ width) × (length (now b) ≡ width)
         × (at + length (counted width (row (now a) (now b))) ≤ length (now out)) ⌝ }
     ensures { λ end. ⌜ (end ≡ at + length (counted width (row (now (a .entry)) (now (b .entry)))))
         × (now (out .exit) ≡ put (now (out .entry)) at (counted width (row (now (a .entry)) (now (b .entry))))) ⌝ }
@@ -55,7 +55,7 @@ fn put_counted(out: &mut [u8], at: usize, a: &[u8], b: &[u8], width: usize) -> u
 
 // Stores the line of a row; answers where it ends.
 fn put_line(out: &mut [u8], at: usize, a: &[u8], b: &[u8], width: usize) -> usize
-    requires { ⌜ (1 ≤ width) × (width ≤ maxWidth) × (length (now a) ≡ width) × (length (now b) ≡ width)
+    requires { ⌜ (1 ≤ width) × Wide width × (length (now a) ≡ width) × (length (now b) ≡ width)
         × (at + length (line width (row (now a) (now b))) ≤ length (now out)) ⌝ }
     ensures { λ end. ⌜ (end ≡ at + length (line width (row (now (a .entry)) (now (b .entry)))))
         × (now (out .exit) ≡ put (now (out .entry)) at (line width (row (now (a .entry)) (now (b .entry))))) ⌝ }
@@ -69,7 +69,7 @@ fn put_line(out: &mut [u8], at: usize, a: &[u8], b: &[u8], width: usize) -> usiz
 
 // The bytes of the line of row r.
 fn row_size(previous: &[u8], next: &[u8], width: usize, r: usize) -> usize
-    requires { ⌜ (1 ≤ width) × (width ≤ maxWidth) × (r * width + width ≤ length (now previous)) × (r * width + width ≤ length (now next)) ⌝ }
+    requires { ⌜ (1 ≤ width) × Wide width × (r * width + width ≤ length (now previous)) × (r * width + width ≤ length (now next)) ⌝ }
     ensures { λ l. ⌜ (l ≡ length (line width (rowAt width r (now (previous .entry)) (now (next .entry))))) × (l ≤ lineMost) ⌝ }
 {
     let a = r * width;
@@ -79,7 +79,7 @@ fn row_size(previous: &[u8], next: &[u8], width: usize, r: usize) -> usize
 
 // The bytes of the lines of n rows from row first on.
 fn lines_size(previous: &[u8], next: &[u8], width: usize, first: usize, n: usize) -> usize
-    requires { ⌜ (1 ≤ width) × (width ≤ maxWidth) × (n ≤ maxHeight)
+    requires { ⌜ (1 ≤ width) × Wide width × High n
         × ((first + n) * width ≤ length (now previous)) × ((first + n) * width ≤ length (now next)) ⌝ }
     ensures { λ l. ⌜ (l ≡ length (lines width (cellsAt width first n (now (previous .entry)) (now (next .entry))))) × (l ≤ lineMost * n) ⌝ }
 {
@@ -103,7 +103,7 @@ fn skip_size(g: usize) -> usize
 
 // The bytes of the delta's body.
 pub fn delta_size(previous: &[u8], next: &[u8], width: usize, height: usize) -> usize
-    requires { ⌜ (1 ≤ width) × (width ≤ maxWidth) × (height ≤ maxHeight)
+    requires { ⌜ (1 ≤ width) × Wide width × High height
         × (length (now previous) ≡ width * height) × (length (now next) ≡ width * height) ⌝ }
     ensures { λ r. ⌜ (r ≡ length (deltaBody width height (now (previous .entry)) (now (next .entry)))) × (r ≤ deltaMost) ⌝ }
 {
@@ -121,7 +121,7 @@ pub fn delta_size(previous: &[u8], next: &[u8], width: usize, height: usize) -> 
 
 // Stores the line of row r; answers where it ends.
 fn put_row(out: &mut [u8], at: usize, previous: &[u8], next: &[u8], width: usize, r: usize) -> usize
-    requires { ⌜ (1 ≤ width) × (width ≤ maxWidth) × (r * width + width ≤ length (now previous)) × (r * width + width ≤ length (now next))
+    requires { ⌜ (1 ≤ width) × Wide width × (r * width + width ≤ length (now previous)) × (r * width + width ≤ length (now next))
         × (at + length (line width (rowAt width r (now previous) (now next))) ≤ length (now out)) ⌝ }
     ensures { λ end. ⌜ (end ≡ at + length (line width (rowAt width r (now (previous .entry)) (now (next .entry)))))
         × (now (out .exit) ≡ put (now (out .entry)) at (line width (rowAt width r (now (previous .entry)) (now (next .entry))))) ⌝ }
@@ -141,7 +141,7 @@ fn put_lines(
     first: usize,
     n: usize,
 ) -> usize
-    requires { ⌜ (1 ≤ width) × (width ≤ maxWidth)
+    requires { ⌜ (1 ≤ width) × Wide width
         × ((first + n) * width ≤ length (now previous)) × ((first + n) * width ≤ length (now next))
         × (at + length (lines width (cellsAt width first n (now previous) (now next))) ≤ length (now out)) ⌝ }
     ensures { λ end. ⌜ (end ≡ at + length (lines width (cellsAt width first n (now (previous .entry)) (now (next .entry)))))
@@ -160,7 +160,7 @@ fn put_lines(
 
 // Stores the skip word before a gap of g rows; answers where it ends.
 fn put_skip(out: &mut [u8], at: usize, g: usize) -> usize
-    requires { ⌜ (g ≤ maxHeight) × (at + length (skipWord g) ≤ length (now out)) ⌝ }
+    requires { ⌜ High g × (at + length (skipWord g) ≤ length (now out)) ⌝ }
     ensures { λ r. ⌜ (r ≡ at + length (skipWord g)) × (now (out .exit) ≡ put (now (out .entry)) at (skipWord g)) ⌝ }
 {
     if g == 0 {
@@ -181,7 +181,7 @@ fn put_stretch(
     g: usize,
     n: usize,
 ) -> usize
-    requires { ⌜ (1 ≤ width) × (width ≤ maxWidth) × (g ≤ maxHeight)
+    requires { ⌜ (1 ≤ width) × Wide width × High g
         × ((i + g + n) * width ≤ length (now previous)) × ((i + g + n) * width ≤ length (now next))
         × (at + length (stretchLines width (stretchAt width i g n (now previous) (now next))) ≤ length (now out)) ⌝ }
     ensures { λ r. ⌜ (r ≡ at + length (stretchLines width (stretchAt width i g n (now (previous .entry)) (now (next .entry)))))
@@ -200,7 +200,7 @@ fn put_rows(
     width: usize,
     height: usize,
 ) -> usize
-    requires { ⌜ (1 ≤ width) × (width ≤ maxWidth) × (height ≤ maxHeight)
+    requires { ⌜ (1 ≤ width) × Wide width × High height
         × (length (now previous) ≡ width * height) × (length (now next) ≡ width * height)
         × (at + length (flatMap (stretchLines width) (changedRows width height (now previous) (now next))) ≤ length (now out)) ⌝ }
     ensures { λ r. ⌜ (r ≡ lineCount width height (now (previous .entry)) (now (next .entry))) × (r ≤ height)
@@ -229,7 +229,7 @@ pub fn write_delta(
     width: usize,
     height: usize,
 )
-    requires { ⌜ (1 ≤ width) × (width ≤ maxWidth) × (height ≤ maxHeight)
+    requires { ⌜ (1 ≤ width) × Wide width × High height
         × (length (now previous) ≡ width * height) × (length (now next) ≡ width * height)
         × (at + length (deltaBody width height (now previous) (now next)) ≤ length (now out)) ⌝ }
     ensures { λ _. ⌜ now (out .exit) ≡ put (now (out .entry)) at (deltaBody width height (now (previous .entry)) (now (next .entry))) ⌝ }

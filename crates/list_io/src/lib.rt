@@ -1,35 +1,39 @@
 // The listing from standard input to standard output. No contract can say which bytes a call of C's reads or writes.
 ghost use mathlib.Core.Path.{_≡_};
-ghost use Prim.Native.Nat.{_≤_};
+ghost use Prim.Native.Nat.{suc, _≤_};
 ghost use lib.ListN.{length};
+ghost use Rattle.list_chunks.specs.Listing.{LIST-INPUT};
+ghost use Rattle.list_chunks.specs.Room.{listMost};
 use answer::Written;
+use list_chunks::LIST_INPUT;
+use list_chunks::LIST_MOST;
 
-// Room for an input and one byte more, by which an input past 65,536 bytes is told.
-fn input_room() -> [u8; 65537]
-    ensures { λ r. ⌜ 65537 ≡ length r ⌝ }
+// Room for an input and one byte more, by which an input that is too long is told.
+fn input_room() -> [u8; LIST_INPUT + 1]
+    ensures { λ r. ⌜ suc LIST-INPUT ≡ length r ⌝ }
 {
-    [0; 65537]
+    [0; LIST_INPUT + 1]
 }
 
 // Room for any listing.
-fn text_room() -> [u8; listing::LIST_MOST]
-    ensures { λ r. ⌜ 218047 ≡ length r ⌝ }
+fn text_room() -> [u8; LIST_MOST]
+    ensures { λ r. ⌜ listMost ≡ length r ⌝ }
 {
-    [0; listing::LIST_MOST]
+    [0; LIST_MOST]
 }
 
 // Lists what standard input holds, and gives how many bytes the text has.
 pub fn list_input() -> usize
-    ensures { λ r. ⌜ r ≤ 218047 ⌝ }
+    ensures { λ r. ⌜ r ≤ listMost ⌝ }
 {
     let mut bytes = input_room();
     let n = io::read_full(0, &mut bytes);
     let mut text = text_room();
-    match listing::list_into(&bytes[..n], &mut text) {
+    match list_chunks::list_into(&bytes[..n], &mut text) {
         Written::Refused(_, _) => 0,
-        Written::Done(length) => {
-            io::write_all(1, &text[0..length]);
-            length
+        Written::Done(count) => {
+            io::write_all(1, &text[0..count]);
+            count
         }
     }
 }

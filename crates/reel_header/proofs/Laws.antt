@@ -10,10 +10,10 @@ use lib.Dec.{leb, eqb}
 use Rattle.words.specs.Words.{u16At, u32At, le16, le32}
 use Rattle.words.specs.Writes.{put}
 use Rattle.words.proofs.There.{there-le16, there-le32}
-use Rattle.answer.specs.Answer.{sizeOk, maxFrames}
-use Rattle.answer.specs.Format.{FLC-MAGIC}
+use Rattle.format.specs.Limits.{sizeOk, maxFrames}
+use Rattle.format.specs.Format.{FLC-MAGIC}
 use Rattle.answer.specs.declared.Refusal.the-variants.{Cut, WrongType, SmallSize, BadSize, BadHeader}
-use Rattle.answer.proofs.Laws.{both-true}
+use Rattle.words.proofs.Tests.{both-true}
 use Rattle.chunks.specs.Spans.{HEADER-BYTES}
 use Rattle.chunks.proofs.Headers.{required}
 use Rattle.reel_header.specs.declared.Head.{Head}

@@ -5,8 +5,8 @@ use mathlib.Core.Bool.{Bool, _&&_}
 use lib.ListN.{length}
 use lib.Dec.{leb, eqb}
 use Rattle.words.specs.Words.{require_else_then_, u16At, u32At}
-use Rattle.answer.specs.Answer.{sizeOk, maxFrames}
-use Rattle.answer.specs.Format.{FLC-MAGIC}
+use Rattle.format.specs.Limits.{sizeOk, maxFrames}
+use Rattle.format.specs.Format.{FLC-MAGIC}
 use Rattle.answer.specs.declared.Refusal.the-variants.{Cut, WrongType, SmallSize, BadSize, BadHeader}
 use Rattle.chunks.specs.Spans.{HEADER-BYTES}
 use Rattle.reel_header.specs.declared.Head.{Head}

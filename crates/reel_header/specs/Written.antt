@@ -6,7 +6,7 @@ use lib.Dec.{eqb}
 use lib.ListN.{replicate}
 use Rattle.words.specs.Words.{u32At, le16, le32}
 use Rattle.words.specs.Writes.{put}
-use Rattle.answer.specs.Format.{FLC-MAGIC}
+use Rattle.format.specs.Format.{FLC-MAGIC}
 use Rattle.chunks.specs.Spans.{HEADER-BYTES}
 use Rattle.reel_header.specs.Head.{SIZE-AT, FRAMES-AT, FLAGS-AT, OFRAME1-AT, OFRAME2-AT, DEPTH, FINISHED}
 

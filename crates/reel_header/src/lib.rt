@@ -2,7 +2,7 @@
 ghost use mathlib.Core.Path.{_≡_};
 ghost use Prim.Native.Nat.{_+_, _<_, _≤_};
 ghost use lib.ListN.{length};
-ghost use Rattle.answer.specs.Answer.{maxFrames};
+ghost use Rattle.format.specs.Limits.{maxFrames};
 ghost use Rattle.chunks.specs.Spans.{HEADER-BYTES};
 ghost use Rattle.reel_header.specs.Head.{formOk, headOf};
 ghost use Rattle.reel_header.specs.Written.{aspect, opened, secondAt, closedHeader};
@@ -68,7 +68,7 @@ fn form_ok(depth: usize, frames: usize, flags: usize) -> bool
     if frames < 1 {
         return false;
     }
-    if frames > answer::MAX_FRAMES {
+    if frames > format::MAX_FRAMES {
         return false;
     }
     flags == FINISHED
@@ -81,7 +81,7 @@ pub fn head_of(b: &[u8]) -> Head
     if b.len() < HEADER_BYTES {
         return Head::Fault(Refusal::Cut);
     }
-    if words::u16_at(b, MAGIC_AT) != answer::FLC_MAGIC {
+    if words::u16_at(b, MAGIC_AT) != format::FLC_MAGIC {
         return Head::Fault(Refusal::WrongType);
     }
     let size = words::u32_at(b, SIZE_AT);
@@ -93,7 +93,7 @@ pub fn head_of(b: &[u8]) -> Head
     }
     let width = words::u16_at(b, WIDTH_AT);
     let height = words::u16_at(b, HEIGHT_AT);
-    if !answer::size_ok(width, height) {
+    if !format::size_ok(width, height) {
         return Head::Fault(Refusal::BadSize);
     }
     let frames = words::u16_at(b, FRAMES_AT);
@@ -133,7 +133,7 @@ pub fn write_header(out: &mut [u8], width: usize, height: usize, speed: usize)
     ensures { λ _. ⌜ now (out .exit) ≡ opened width height speed ⌝ }
 {
     words::fill(out, 0);
-    words::put_u16(out, MAGIC_AT, answer::FLC_MAGIC);
+    words::put_u16(out, MAGIC_AT, format::FLC_MAGIC);
     words::put_u16(out, WIDTH_AT, width);
     words::put_u16(out, HEIGHT_AT, height);
     words::put_u16(out, DEPTH_AT, DEPTH);

@@ -1,10 +1,9 @@
 -- Lists of bytes, and writes of bytes: what is made of bytes holds bytes.
 use mathlib.Core.List.{List, [], _∷_, _++_}
-use mathlib.Core.Bool.{Bool, true, false}
 use Prim.Native.Nat.{ℕ, suc, zero, _<_, _+_}
 use lib.ListN.{length, take, drop, replicate}
 use Rattle.words.specs.Words.{Bytes}
-use Rattle.words.specs.Writes.{Write, put, written}
+use Rattle.words.specs.Writes.{Write, put, applied}
 use Rattle.words.proofs.Laws.{bytes-take, bytes-drop}
 
 -- lists of bytes
@@ -32,7 +31,7 @@ bytewise-append [] vs i j = j
 bytewise-append (w ∷ ws) vs i j = (i .0, bytewise-append ws vs (i .1) j)
 
 -- they keep a list of bytes one
-pub bytes-written : (ws : List Write) (d : List ℕ) → Bytewise ws → Bytes d → Bytes (written ws d)
-unfolding written
-bytes-written [] d i h = h
-bytes-written (w ∷ ws) d i h = bytes-written ws (put d (w .at) (w .bytes)) (i .1) (bytes-put d (w .at) (w .bytes) h (i .0))
+pub bytes-applied : (ws : List Write) (d : List ℕ) → Bytewise ws → Bytes d → Bytes (applied ws d)
+unfolding applied
+bytes-applied [] d i h = h
+bytes-applied (w ∷ ws) d i h = bytes-applied ws (put d (w .at) (w .bytes)) (i .1) (bytes-put d (w .at) (w .bytes) h (i .0))

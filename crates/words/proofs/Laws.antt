@@ -11,7 +11,8 @@ use lib.Seq.{length-take-le, drop-drop, drop-cons, set-split, take-at, drop-at, 
 use native.Mathlib.Numerals.{add-one}
 use borrow.Author.Tests.{lt-ltb, le-ltb, eq-eqb, ne-eqb, eqb-true}
 use Rattle.words.specs.Words.{magnitude, le16, le32, chunk, same, Bytes}
-use Rattle.words.specs.Writes.{Write, put, written}
+use Rattle.words.specs.Writes.{Write, put, applied}
+use Rattle.words.proofs.Tests.{by-test}
 
 -- a signed byte
 
@@ -34,10 +35,10 @@ length-put d at v h =
     simp (length-append, length-take-le at d (omega arith), length-drop) (omega arith)
 
 -- writes one after the other
-pub written-append : (ws vs : List Write) (d : List ℕ) → written (ws ++ vs) d ≡ written vs (written ws d)
-unfolding written
-written-append [] vs d = refl
-written-append (w ∷ ws) vs d = written-append ws vs (put d (w .at) (w .bytes))
+pub applied-append : (ws vs : List Write) (d : List ℕ) → applied (ws ++ vs) d ≡ applied vs (applied ws d)
+unfolding applied
+applied-append [] vs d = refl
+applied-append (w ∷ ws) vs d = applied-append ws vs (put d (w .at) (w .bytes))
 
 -- a part from a on, k long, that comes back as v
 pub lent-put : (d v : List ℕ) (a k : ℕ) → length v ≡ k → take a d ++ (v ++ drop k (drop a d)) ≡ put d a v
@@ -140,11 +141,10 @@ same-refl (x ∷ xs) = ap (λ (t : Bool). cond t (same xs xs) false) (eq-eqb x x
 
 -- lists of other lengths are not the same
 pub same-other : (a b : List ℕ) → (length a ≡ length b → ⊥) → same a b ≡ false
-same-other a b h = go (same a b) refl
-  where
-    go : (t : Bool) → same a b ≡ t → t ≡ false
-    go true e = absurd (h (ap length (same-eq a b e)))
-    go false e = refl
+same-other a b h =
+    by-test (λ t. t ≡ false) (same a b)
+    (λ e. absurd (h (ap length (same-eq a b e))))
+    (λ e. refl)
 
 -- a loop that compares: at an equal byte, at another, at the end
 module _ (a b : List ℕ) (i : ℕ) (l : length a ≡ length b) where
@@ -195,12 +195,12 @@ inside-append n [] vs i j = j
 inside-append n (w ∷ ws) vs i j = (i .0, inside-append n ws vs (i .1) j)
 
 -- they keep the length
-pub length-written : (ws : List Write) (d : List ℕ) → Inside (length d) ws → length (written ws d) ≡ length d
-unfolding written
-length-written [] d i = refl
-length-written (w ∷ ws) d i =
+pub length-applied : (ws : List Write) (d : List ℕ) → Inside (length d) ws → length (applied ws d) ≡ length d
+unfolding applied
+length-applied [] d i = refl
+length-applied (w ∷ ws) d i =
     let e = length-put d (w .at) (w .bytes) (i .0) in
-    length-written ws (put d (w .at) (w .bytes)) (subst (λ (n : ℕ). Inside n ws) (sym e) (i .1)) ∙ e
+    length-applied ws (put d (w .at) (w .bytes)) (subst (λ (n : ℕ). Inside n ws) (sym e) (i .1)) ∙ e
 
 -- lists of bytes
 

@@ -1,6 +1,5 @@
 -- A store of a loop that copies, changes or fills bytes one by one.
 use mathlib.Core.Path.{_≡_, ap, _∙_, refl, ap₂, sym}
-use mathlib.Core.Bool.{Bool, true, false}
 use mathlib.Core.List.{List, [], _∷_, _++_, append-nil, map}
 use Prim.Native.Nat.{ℕ, suc, zero, _<_, _≤_, _+_, _-_, _/_}
 use native.Mathlib.Nat.{le-of-suc-le-suc, not-suc-le-zero}
@@ -10,6 +9,7 @@ use borrow.Author.Tests.{eqb-true, eqb-false}
 use lib.Dec.{eqb}
 use lib.ListN.{length, drop, take, set, getD, drop-of-length-le, replicate, replicate-append-replicate, length-set, length-replicate, getD-replicate}
 use lib.Seq.{take-all, take-suc-set, getD-set-same, getD-set-other, ext-getD}
+use Rattle.words.proofs.Tests.{by-test}
 
 -- f of each byte of s stored in d: a turn, and the end
 
@@ -41,11 +41,10 @@ fill-step l i v h e = rw (← replicate-append-replicate i 1 v, add-one, take-su
 -- what s has at i stored there: byte j is s's if it is that one, or was s's before
 
 stored : (l s : List ℕ) (i j v : ℕ) → i < length l → v ≡ getD s i 0 → ((j ≡ i → ⊥) → getD l j 0 ≡ getD s j 0) → getD (set l i v) j 0 ≡ getD s j 0
-stored l s i j v h e k = go (eqb j i) refl
-  where
-    go : (b : Bool) → eqb j i ≡ b → getD (set l i v) j 0 ≡ getD s j 0
-    go true t = let q = eqb-true j i t in rw q (getD-set-same l i v 0 h ∙ e)
-    go false f = getD-set-other l i j v 0 (eqb-false j i f) ∙ k (eqb-false j i f)
+stored l s i j v h e k =
+    by-test (λ b. getD (set l i v) j 0 ≡ getD s j 0) (eqb j i)
+    (λ t. let q = eqb-true j i t in rw q (getD-set-same l i v 0 h ∙ e))
+    (λ f. getD-set-other l i j v 0 (eqb-false j i f) ∙ k (eqb-false j i f))
 
 -- the first two bytes and the last two, of no more than four
 pub few-copied : (d s : List ℕ) (k : ℕ) → length s ≡ length d → k + 2 ≡ length s → k ≤ 2

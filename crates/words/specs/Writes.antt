@@ -13,6 +13,6 @@ abbrev pub put : List ℕ → ℕ → List ℕ → List ℕ
 put d at v = take at d ++ (v ++ drop (at + length v) d)
 
 -- d after the writes ws, done in order
-unfoldable pub written : List Write → List ℕ → List ℕ
-written [] d = d
-written (w ∷ ws) d = written ws (put d (w .at) (w .bytes))
+unfoldable pub applied : List Write → List ℕ → List ℕ
+applied [] d = d
+applied (w ∷ ws) d = applied ws (put d (w .at) (w .bytes))

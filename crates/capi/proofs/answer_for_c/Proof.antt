@@ -7,15 +7,6 @@ use borrow.Author.Needs.{needs}
 use Rattle.capi.proofs.answer_for_c.Statement.{statement}
 use Rattle.capi.proofs.answer_for_c.Tie as tie
 
-enum-told : tie.Need-enum-told
-enum-told c = search needs
-
-enum-known-a : tie.Need-enum-known-a
-enum-known-a c = search needs
-
-number-of-requires : tie.Need-number-of-requires
-number-of-requires c κs = search needs
-
 returns : tie.Need-returns
 returns c =
     record {
@@ -32,4 +23,4 @@ returns-2 c =
 
 pub answer-for-c-spec : {M : Type 1} → statement M
 answer-for-c-spec =
-    tie.close (tie.spec enum-told enum-known-a number-of-requires returns returns-2)
+    tie.close (tie.spec (λ c. search needs) (λ c. search needs) (λ c κs. search needs) returns returns-2)

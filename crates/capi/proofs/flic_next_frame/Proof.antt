@@ -6,18 +6,6 @@ use borrow.Author.Needs.{needs}
 use Rattle.capi.proofs.flic_next_frame.Statement.{statement}
 use Rattle.capi.proofs.flic_next_frame.Tie as tie
 
-next-at-requires : tie.Need-next-at-requires
-next-at-requires c κs = search needs
-
-enum-known-e : tie.Need-enum-known-e
-enum-known-e c = search needs
-
-number-of-requires : tie.Need-number-of-requires
-number-of-requires c κs = search needs
-
-enum-known-from : tie.Need-enum-known-from
-enum-known-from c = search needs
-
 returns : tie.Need-returns
 returns c = ap (λ (n : ℕ). record { number = n; place = c .before .before .e .given .0 .1 .0; from = 0; end = 0 }) (c .number-of .ensures) ∙ ap spanFor (sym (sym (c .before .before .before .before .next-at .ensures) ∙ c .before .before .e .given .1))
 
@@ -27,4 +15,4 @@ returns-2 c = ap spanFor (sym (sym (c .before .before .before .next-at .ensures)
 pub flic-next-frame-spec : {M : Type 1} → statement M
 flic-next-frame-spec =
     tie.close
-    (tie.spec next-at-requires enum-known-e number-of-requires enum-known-from returns returns-2)
+    (tie.spec (λ c κs. search needs) (λ c. search needs) (λ c κs. search needs) (λ c. search needs) returns returns-2)

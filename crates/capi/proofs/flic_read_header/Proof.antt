@@ -6,18 +6,6 @@ use borrow.Author.Needs.{needs}
 use Rattle.capi.proofs.flic_read_header.Statement.{statement}
 use Rattle.capi.proofs.flic_read_header.Tie as tie
 
-head-of-requires : tie.Need-head-of-requires
-head-of-requires c κs = search needs
-
-enum-known-e : tie.Need-enum-known-e
-enum-known-e c = search needs
-
-number-of-requires : tie.Need-number-of-requires
-number-of-requires c κs = search needs
-
-enum-known-width : tie.Need-enum-known-width
-enum-known-width c = search needs
-
 returns : tie.Need-returns
 returns c = ap (λ (n : ℕ). record { number = n; place = 0; width = 0; height = 0; frames = 0; size = 0; speed = 0 }) (c .number-of .ensures) ∙ ap headerFor (sym (sym (c .before .before .before .before .head-of .ensures) ∙ c .before .before .e .given .1))
 
@@ -27,4 +15,4 @@ returns-2 c = ap headerFor (sym (sym (c .before .before .before .head-of .ensure
 pub flic-read-header-spec : {M : Type 1} → statement M
 flic-read-header-spec =
     tie.close
-    (tie.spec head-of-requires enum-known-e number-of-requires enum-known-width returns returns-2)
+    (tie.spec (λ c κs. search needs) (λ c. search needs) (λ c κs. search needs) (λ c. search needs) returns returns-2)

@@ -7,15 +7,6 @@ use borrow.Author.Needs.{needs}
 use Rattle.capi.proofs.written_for_c.Statement.{statement}
 use Rattle.capi.proofs.written_for_c.Tie as tie
 
-enum-known-a : tie.Need-enum-known-a
-enum-known-a c = search needs
-
-enum-known-a-2 : tie.Need-enum-known-a-2
-enum-known-a-2 c = search needs
-
-number-of-requires : tie.Need-number-of-requires
-number-of-requires c κs = search needs
-
 returns : tie.Need-returns
 returns c = (
   record {
@@ -36,4 +27,4 @@ returns-2 c = (
 
 pub written-for-c-spec : {M : Type 1} → statement M
 written-for-c-spec =
-    tie.close (tie.spec enum-known-a enum-known-a-2 number-of-requires returns returns-2)
+    tie.close (tie.spec (λ c. search needs) (λ c. search needs) (λ c κs. search needs) returns returns-2)

@@ -14,32 +14,11 @@ Inv-loop b k at₀ left₀ at left = (1 ≤ left) × (frameAt b k 128 ≡ frameA
 abbrev μ-loop : tie.MeasureT-loop
 μ-loop b k at₀ left₀ at left = left
 
-loop-holds : tie.Need-loop-holds Inv-loop μ-loop
-loop-holds c = search needs
-
-next-at-requires : tie.Need-next-at-requires Inv-loop μ-loop
-next-at-requires c κs = search needs
-
-enum-known-e : tie.Need-enum-known-e Inv-loop μ-loop
-enum-known-e c = search needs
-
 returns : tie.Need-returns Inv-loop μ-loop
 returns c = sym (c .before .before .before .before .before .loop .inv .1 ∙ frame-at-fault (c .before .before .before .before .before .before .before .args .b .now) (c .before .before .before .before .before .loop .left) (c .before .before .before .before .before .loop .at) (c .before .before .before .before .loop-test .taken) _ _ (sym (c .before .before .before .next-at .ensures) ∙ c .before .e .given .1))
 
-enum-known-end : tie.Need-enum-known-end Inv-loop μ-loop
-enum-known-end c = search needs
-
-sub-left : tie.Need-sub-left Inv-loop μ-loop
-sub-left c = search needs
-
-loop-less : tie.Need-loop-less Inv-loop μ-loop
-loop-less c = search needs
-
 loop-again : tie.Need-loop-again Inv-loop μ-loop
 loop-again c = (omega arith, c .before .before .before .before .before .loop .inv .1 ∙ frame-at-more (c .before .before .before .before .before .before .before .args .b .now) (c .before .before .before .before .before .loop .left) (c .before .before .before .before .before .loop .at) (c .before .before .before .before .loop-test .taken) _ _ (sym (c .before .before .before .next-at .ensures) ∙ c .before .end .given .1))
-
-next-at-requires-2 : tie.Need-next-at-requires-2 Inv-loop μ-loop
-next-at-requires-2 c κs = search needs
 
 returns-2 : tie.Need-returns-2 Inv-loop μ-loop
 returns-2 c = c .next-at2 .ensures ∙ sym (c .before .before .loop .inv .1 ∙ frame-at-one (c .before .before .before .before .args .b .now) (c .before .before .loop .left) (c .before .before .loop .at) (omega arith))
@@ -50,13 +29,13 @@ frame-at-spec =
     (tie.spec
     Inv-loop
     μ-loop
-    loop-holds
-    next-at-requires
-    enum-known-e
+    (λ c. search needs)
+    (λ c κs. search needs)
+    (λ c. search needs)
     returns
-    enum-known-end
-    sub-left
-    loop-less
+    (λ c. search needs)
+    (λ c. search needs)
+    (λ c. search needs)
     loop-again
-    next-at-requires-2
+    (λ c κs. search needs)
     returns-2)

@@ -9,23 +9,14 @@ use Rattle.chunks.proofs.frame_header.Tie as tie
 returns : tie.Need-returns
 returns c = frame-cut _ (c .if1 .taken)
 
-u16-at-requires : tie.Need-u16-at-requires
-u16-at-requires c κs = search needs
-
 returns-2 : tie.Need-returns-2
 returns-2 c = frame-type _ (c .before .before .if1 .left) (λ z. c .if2 .taken (c .before .u16-at .ensures .value ∙ z))
-
-u32-at-requires : tie.Need-u32-at-requires
-u32-at-requires c κs = search needs
 
 returns-3 : tie.Need-returns-3
 returns-3 c = frame-small _ (c .before .before .before .before .if1 .left) (omega arith) (omega arith)
 
 returns-4 : tie.Need-returns-4
 returns-4 c = frame-large _ (c .before .before .before .before .before .if1 .left) (omega arith) (omega arith) (omega arith)
-
-u16-at-requires-2 : tie.Need-u16-at-requires-2
-u16-at-requires-2 c κs = search needs
 
 returns-5 : tie.Need-returns-5
 returns-5 c = frame-whole _ _ _ (c .u16-at2 .ensures .value) (c .before .before .before .u32-at .ensures .value) (c .before .before .before .before .before .before .if1 .left) (omega arith) (omega arith) (omega arith)
@@ -35,10 +26,10 @@ frame-header-spec =
     tie.close
     (tie.spec
     returns
-    u16-at-requires
+    (λ c κs. search needs)
     returns-2
-    u32-at-requires
+    (λ c κs. search needs)
     returns-3
     returns-4
-    u16-at-requires-2
+    (λ c κs. search needs)
     returns-5)

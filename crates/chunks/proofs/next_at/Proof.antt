@@ -20,35 +20,11 @@ abbrev μ-loop : tie.MeasureT-loop
 returns : tie.Need-returns Inv-loop μ-loop
 returns c = sym (next-none (c .before .before .args .b .now) (c .before .before .args .start) (omega arith))
 
-loop-holds : tie.Need-loop-holds Inv-loop μ-loop
-loop-holds c = search needs
-
-sub-loop : tie.Need-sub-loop Inv-loop μ-loop
-sub-loop c = search needs
-
-add-u16-at : tie.Need-add-u16-at Inv-loop μ-loop
-add-u16-at c = search needs
-
-u16-at-requires : tie.Need-u16-at-requires Inv-loop μ-loop
-u16-at-requires c κs = search needs
-
-packed-at-requires : tie.Need-packed-at-requires Inv-loop μ-loop
-packed-at-requires c κs = search needs
-
 returns-2 : tie.Need-returns-2 Inv-loop μ-loop
 returns-2 c = c .packed-at .ensures ∙ sym (c .before .before .before .before .loop .inv .1 ∙ next-frame (c .before .before .before .before .before .before .before .args .b .now) (c .before .before .before .before .loop .at) (omega arith) (sym (c .before .before .u16-at .ensures .value) ∙ c .before .if2 .taken))
 
-header-at-requires : tie.Need-header-at-requires Inv-loop μ-loop
-header-at-requires c κs = search needs
-
-enum-known-e : tie.Need-enum-known-e Inv-loop μ-loop
-enum-known-e c = search needs
-
 returns-3 : tie.Need-returns-3 Inv-loop μ-loop
 returns-3 c = sym (c .before .before .before .before .before .before .before .loop .inv .1 ∙ next-over (c .before .before .before .before .before .before .before .before .before .before .args .b .now) (c .before .before .before .before .before .before .before .loop .at) (omega arith) (λ e. c .before .before .before .before .if2 .left (c .before .before .before .before .before .u16-at .ensures .value ∙ e)) _ (sym (c .before .before .before .header-at .ensures) ∙ c .before .e .given .1))
-
-enum-known-end : tie.Need-enum-known-end Inv-loop μ-loop
-enum-known-end c = search needs
 
 loop-less : tie.Need-loop-less Inv-loop μ-loop
 loop-less c = let i = header-in _ _ _ (sym (c .before .before .before .header-at .ensures) ∙ c .before .end .given .1) in omega (arith, i .0, i .1)
@@ -69,16 +45,16 @@ next-at-spec =
     Inv-loop
     μ-loop
     returns
-    loop-holds
-    sub-loop
-    add-u16-at
-    u16-at-requires
-    packed-at-requires
+    (λ c. search needs)
+    (λ c. search needs)
+    (λ c. search needs)
+    (λ c κs. search needs)
+    (λ c κs. search needs)
     returns-2
-    header-at-requires
-    enum-known-e
+    (λ c κs. search needs)
+    (λ c. search needs)
     returns-3
-    enum-known-end
+    (λ c. search needs)
     loop-less
     loop-again
     returns-4)

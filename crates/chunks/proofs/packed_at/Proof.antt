@@ -10,24 +10,6 @@ use borrow.Author.Needs.{needs}
 use Rattle.chunks.proofs.packed_at.Statement.{statement}
 use Rattle.chunks.proofs.packed_at.Tie as tie
 
-sub-frame-header : tie.Need-sub-frame-header
-sub-frame-header c = search needs
-
-part-frame-header-start : tie.Need-part-frame-header-start
-part-frame-header-start c = search needs
-
-part-frame-header-end : tie.Need-part-frame-header-end
-part-frame-header-end c = search needs
-
-frame-header-requires : tie.Need-frame-header-requires
-frame-header-requires c κs = search needs
-
-enum-known-e : tie.Need-enum-known-e
-enum-known-e c = search needs
-
-enum-known-size : tie.Need-enum-known-size
-enum-known-size c = search needs
-
 add-t12 : tie.Need-add-t12
 add-t12 c =
     let b = c .before .before .before .before .before .before .args .b .now in
@@ -45,12 +27,12 @@ pub packed-at-spec : {M : Type 1} → statement M
 packed-at-spec =
     tie.close
     (tie.spec
-    sub-frame-header
-    part-frame-header-start
-    part-frame-header-end
-    frame-header-requires
-    enum-known-e
-    enum-known-size
+    (λ c. search needs)
+    (λ c. search needs)
+    (λ c. search needs)
+    (λ c κs. search needs)
+    (λ c. search needs)
+    (λ c. search needs)
     add-t12
     returns
     returns-2)

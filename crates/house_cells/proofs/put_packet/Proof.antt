@@ -7,24 +7,6 @@ use Rattle.words.proofs.Laws.{put-then}
 use Rattle.house_cells.proofs.put_packet.Statement.{statement}
 use Rattle.house_cells.proofs.put_packet.Tie as tie
 
-put-two-requires : tie.Need-put-two-requires
-put-two-requires c κs = search needs
-
-add-put-bytes : tie.Need-add-put-bytes
-add-put-bytes c = search needs
-
-put-bytes-requires : tie.Need-put-bytes-requires
-put-bytes-requires c κs = search needs
-
-add-result : tie.Need-add-result
-add-result c = search needs
-
-add-result-2 : tie.Need-add-result-2
-add-result-2 c = search needs
-
-same-length : tie.Need-same-length
-same-length c = search needs
-
 returns : tie.Need-returns
 returns c =
     let a = c .before .before .before .before .before .before .before .before .before .before .args in (
@@ -36,10 +18,10 @@ pub put-packet-spec : {M : Type 1} → statement M
 put-packet-spec =
     tie.close
     (tie.spec
-    put-two-requires
-    add-put-bytes
-    put-bytes-requires
-    add-result
-    add-result-2
-    same-length
+    (λ c κs. search needs)
+    (λ c. search needs)
+    (λ c κs. search needs)
+    (λ c. search needs)
+    (λ c. search needs)
+    (λ c. search needs)
     returns)

@@ -36,17 +36,11 @@ returns c =
     running-stops (a .p .now) (a .q .now) (a .k) (a .n) (a .i) (a .sought) (c .before .before .before .loop .j) (c .before .before .before .loop .at) (c .before .found .result) (c .before .before .before .loop .inv) (c .before .before .loop-test .taken) (c .before .found .ensures)
     (not-true (c .before .found .result) (c .if1 .taken))
 
-add-j : tie.Need-add-j Inv-loop μ-loop
-add-j c = search needs
-
 add-at : tie.Need-add-at Inv-loop μ-loop
 add-at c =
     let a = c .before .before .before .before .before .before .args in
     let n = next-place (a .p .now) (a .q .now) (a .k) (a .n) (a .i) (a .sought) (c .before .before .before .loop .j) (c .before .before .before .loop .at) (c .before .found .result) (c .before .before .before .loop .inv) (c .before .before .loop-test .taken) (c .before .found .ensures) in
     omega (arith, n, c .before .before .before .before .before .before .pre)
-
-loop-less : tie.Need-loop-less Inv-loop μ-loop
-loop-less c = search needs
 
 loop-again : tie.Need-loop-again Inv-loop μ-loop
 loop-again c =
@@ -73,9 +67,9 @@ run-of-spec =
     found-requires
     sub-result
     returns
-    add-j
+    (λ c. search needs)
     add-at
-    loop-less
+    (λ c. search needs)
     loop-again
     sub-result-2
     returns-2)

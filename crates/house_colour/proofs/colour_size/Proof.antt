@@ -23,9 +23,6 @@ loop-holds c =
 next-stretch-requires : tie.Need-next-stretch-requires Inv-loop μ-loop
 next-stretch-requires c κs = omega (arith, c .before .before .before .pre)
 
-add-result : tie.Need-add-result Inv-loop μ-loop
-add-result c = search needs
-
 returns : tie.Need-returns Inv-loop μ-loop
 unfolding changedEntries
 returns c =
@@ -35,24 +32,6 @@ returns c =
       omega (arith, measured-all 3 256 (a .previous .now) (a .next .now) colourPacket (l .i) (s .result .gap) (s .result .changed) (l .size) (s .ensures) (l .inv .2) (c .if1 .taken), body-length (a .previous .now) (a .next .now)),
       omega arith,
     )
-
-mul-size : tie.Need-mul-size Inv-loop μ-loop
-mul-size c = search needs
-
-add-size : tie.Need-add-size Inv-loop μ-loop
-add-size c = search needs
-
-add-size-2 : tie.Need-add-size-2 Inv-loop μ-loop
-add-size-2 c = search needs
-
-add-i : tie.Need-add-i Inv-loop μ-loop
-add-i c = search needs
-
-add-i-2 : tie.Need-add-i-2 Inv-loop μ-loop
-add-i-2 c = search needs
-
-loop-less : tie.Need-loop-less Inv-loop μ-loop
-loop-less c = search needs
 
 loop-again : tie.Need-loop-again Inv-loop μ-loop
 loop-again c =
@@ -76,12 +55,12 @@ colour-size-spec =
     μ-loop
     loop-holds
     next-stretch-requires
-    add-result
+    (λ c. search needs)
     returns
-    mul-size
-    add-size
-    add-size-2
-    add-i
-    add-i-2
-    loop-less
+    (λ c. search needs)
+    (λ c. search needs)
+    (λ c. search needs)
+    (λ c. search needs)
+    (λ c. search needs)
+    (λ c. search needs)
     loop-again)

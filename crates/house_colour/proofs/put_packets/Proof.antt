@@ -46,27 +46,6 @@ returns c =
       written-all 3 256 (a .previous .now) (a .next .now) colourPacket (a .out .now) (a .at) (l .out) (l .here) (l .i) (s .result .gap) (s .result .changed) (s .ensures) (l .inv .3) (c .if1 .taken) .1,
     )
 
-add-a : tie.Need-add-a Inv-loop μ-loop
-add-a c = search needs
-
-mul-a : tie.Need-mul-a Inv-loop μ-loop
-mul-a c = search needs
-
-mul-e : tie.Need-mul-e Inv-loop μ-loop
-mul-e c = search needs
-
-add-e : tie.Need-add-e Inv-loop μ-loop
-add-e c = search needs
-
-sub-put-packet : tie.Need-sub-put-packet Inv-loop μ-loop
-sub-put-packet c = search needs
-
-part-put-packet-start : tie.Need-part-put-packet-start Inv-loop μ-loop
-part-put-packet-start c = search needs
-
-part-put-packet-end : tie.Need-part-put-packet-end Inv-loop μ-loop
-part-put-packet-end c = search needs
-
 put-packet-requires : tie.Need-put-packet-requires Inv-loop μ-loop
 put-packet-requires c κs =
     let a = c .before .before .before .before .before .before .before .before .before .before .before .before .args in
@@ -76,15 +55,6 @@ put-packet-requires c κs =
     let m = s .result .changed in
     let room = written-room 3 256 (a .previous .now) (a .next .now) colourPacket (a .out .now) (a .at) (l .out) (l .here) (l .i) g m (s .ensures) (l .inv .3) _ (packet-lent (a .previous .now) (a .next .now) (l .i) g m) (omega (arith, c .before .before .before .before .before .if1 .left)) in
     (omega (arith, room), omega (arith, s .ensures .inside, c .before .before .before .before .before .if1 .left), omega arith)
-
-add-count : tie.Need-add-count Inv-loop μ-loop
-add-count c = search needs
-
-add-i : tie.Need-add-i Inv-loop μ-loop
-add-i c = search needs
-
-add-i-2 : tie.Need-add-i-2 Inv-loop μ-loop
-add-i-2 c = search needs
 
 loop-less : tie.Need-loop-less Inv-loop μ-loop
 loop-less c = omega (arith, c .before .before .before .before .before .before .before .before .before .before .before .before .next-stretch .ensures .inside, c .before .before .before .before .before .before .before .before .before .before .if1 .left)
@@ -115,16 +85,16 @@ put-packets-spec =
     next-stretch-requires
     same-length
     returns
-    add-a
-    mul-a
-    mul-e
-    add-e
-    sub-put-packet
-    part-put-packet-start
-    part-put-packet-end
+    (λ c. search needs)
+    (λ c. search needs)
+    (λ c. search needs)
+    (λ c. search needs)
+    (λ c. search needs)
+    (λ c. search needs)
+    (λ c. search needs)
     put-packet-requires
-    add-count
-    add-i
-    add-i-2
+    (λ c. search needs)
+    (λ c. search needs)
+    (λ c. search needs)
     loop-less
     loop-again)

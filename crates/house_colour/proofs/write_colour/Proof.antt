@@ -1,13 +1,9 @@
 -- The packets, and then the packet count in front of them.
 use Rattle.house_colour.proofs.Laws.{body-length, body-stored}
-use lib.ListN.{length}
 use native.Mathlib.Omega.{arith}
 use borrow.Author.Needs.{needs}
 use Rattle.house_colour.proofs.write_colour.Statement.{statement}
 use Rattle.house_colour.proofs.write_colour.Tie as tie
-
-add-put-packets : tie.Need-add-put-packets
-add-put-packets c = search needs
 
 put-packets-requires : tie.Need-put-packets-requires
 put-packets-requires c κs = (c .before .before .before .before .pre .0, c .before .before .before .before .pre .1, omega (arith, c .before .before .before .before .pre .2, body-length (c .before .before .before .before .args .previous .now) (c .before .before .before .before .args .next .now)))
@@ -17,9 +13,6 @@ put-u16-requires c κs =
     let p = c .before .before .before .put-packets in
     omega (arith, c .before .before .before .before .before .before .before .before .pre .2, p .ensures .1, body-length (c .before .before .before .before .before .before .before .before .args .previous .now) (c .before .before .before .before .before .before .before .before .args .next .now))
 
-same-length : tie.Need-same-length
-same-length c = search needs
-
 returns : tie.Need-returns
 returns c =
     let a = c .before .before .before .before .before .before .before .before .before .before .before .args in
@@ -28,4 +21,4 @@ returns c =
 
 pub write-colour-spec : {M : Type 1} → statement M
 write-colour-spec =
-    tie.close (tie.spec add-put-packets put-packets-requires put-u16-requires same-length returns)
+    tie.close (tie.spec (λ c. search needs) put-packets-requires put-u16-requires (λ c. search needs) returns)

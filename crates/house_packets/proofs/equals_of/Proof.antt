@@ -33,12 +33,6 @@ returns c =
     let s = c .before .same-unit in
     equal-stops (unitAt (a .unit) (a .b .now) (a .v)) (a .unit) (a .b .now) (a .x) (a .m) (l .j) (l .inv) (s .result) (c .before .before .loop-test .taken) (s .ensures) (not-true (s .result) (c .if1 .taken))
 
-add-j : tie.Need-add-j Inv-loop μ-loop
-add-j c = search needs
-
-loop-less : tie.Need-loop-less Inv-loop μ-loop
-loop-less c = search needs
-
 loop-again : tie.Need-loop-again Inv-loop μ-loop
 loop-again c =
     let a = c .before .before .before .before .before .args in
@@ -61,7 +55,7 @@ equals-of-spec =
     add-same-unit
     same-unit-requires
     returns
-    add-j
-    loop-less
+    (λ c. search needs)
+    (λ c. search needs)
     loop-again
     returns-2)

@@ -14,12 +14,6 @@ Inv-loop b unit least longest x m g i₀ left₀ size₀ i left size = Sizing un
 abbrev μ-loop : tie.MeasureT-loop
 μ-loop b unit least longest x m g i₀ left₀ size₀ i left size = left
 
-shortened-requires : tie.Need-shortened-requires Inv-loop μ-loop
-shortened-requires c κs = search needs
-
-mul-size : tie.Need-mul-size Inv-loop μ-loop
-mul-size c = search needs
-
 loop-holds : tie.Need-loop-holds Inv-loop μ-loop
 loop-holds c =
     let a = c .before .before .args in
@@ -34,24 +28,12 @@ packet-at-requires c κs =
 add-i : tie.Need-add-i Inv-loop μ-loop
 add-i c = let a = c .before .before .before .before .before .before .args in omega (arith, c .before .before .before .loop .inv .place, c .before .packet-at .ensures .inside, units-few (a .unit) (a .x + a .m) (length (a .b .now)) (c .before .before .before .before .before .before .pre .0 .some-unit) (c .before .before .before .before .before .before .pre .1))
 
-sub-left : tie.Need-sub-left Inv-loop μ-loop
-sub-left c = search needs
-
-add-size : tie.Need-add-size Inv-loop μ-loop
-add-size c = search needs
-
-add-size-2 : tie.Need-add-size-2 Inv-loop μ-loop
-add-size-2 c = search needs
-
-loop-less : tie.Need-loop-less Inv-loop μ-loop
-loop-less c = search needs
-
 loop-again : tie.Need-loop-again Inv-loop μ-loop
 loop-again c =
     let a = c .before .before .before .before .before .before .before .before .args in
     let l = c .before .before .before .before .before .loop in
     let p = c .before .before .before .packet-at in
-    sizing-on (a .unit) (a .least) (a .longest) (a .b .now) (a .x) (a .m) (a .g) (l .i) (l .left) (l .size) (l .inv) (p .result .units) (p .result .kind) (p .result .len) (p .ensures)
+    sizing-on (a .unit) (a .least) (a .longest) (a .b .now) (a .x) (a .m) (a .g) (l .i) (l .left) (l .size) (l .inv) (p .result .units) (p .result .code) (p .result .len) (p .ensures)
 
 returns : tie.Need-returns Inv-loop μ-loop
 returns c =
@@ -65,14 +47,14 @@ gap-size-spec =
     (tie.spec
     Inv-loop
     μ-loop
-    shortened-requires
-    mul-size
+    (λ c κs. search needs)
+    (λ c. search needs)
     loop-holds
     packet-at-requires
     add-i
-    sub-left
-    add-size
-    add-size-2
-    loop-less
+    (λ c. search needs)
+    (λ c. search needs)
+    (λ c. search needs)
+    (λ c. search needs)
     loop-again
     returns)

@@ -12,19 +12,10 @@ use borrow.Author.Needs.{needs}
 use Rattle.house_packets.proofs.packet_at.Statement.{statement}
 use Rattle.house_packets.proofs.packet_at.Tie as tie
 
-repeats-at-requires : tie.Need-repeats-at-requires
-repeats-at-requires c κs = search needs
-
-smaller-requires : tie.Need-smaller-requires
-smaller-requires c κs = search needs
-
 equals-of-requires : tie.Need-equals-of-requires
 equals-of-requires c κs =
     let a = c .before .before .before .before .args in
     (c .before .before .before .before .pre .0, c .before .before .before .before .pre .1, unit-inside (a .unit) (a .x) (a .x + a .m) (length (a .b .now)) (omega (arith, c .before .before .before .before .pre .4)) (c .before .before .before .before .pre .5), units-inside (a .unit) _ (a .x + a .m) (length (a .b .now)) (omega (arith, c .smaller .ensures)) (c .before .before .before .before .pre .5))
-
-sub-t9 : tie.Need-sub-t9
-sub-t9 c = search needs
 
 returns : tie.Need-returns
 returns c =
@@ -33,19 +24,10 @@ returns c =
     repeat-at (a .unit) (a .least) (c .before .before .before .before .before .pre .0) (c .before .before .before .before .before .pre .1) b (a .x) (a .m) (c .before .before .before .before .before .pre .4) (c .before .before .before .before .before .pre .5) (c .equals-of .result) (sym (c .before .before .before .repeats-at .ensures) ∙ c .before .before .if1 .taken)
     (c .equals-of .ensures .0 ∙ ap (λ (j : ℕ). equals (unitAt (a .unit) b (a .x)) (unitsAt (a .unit) b (a .x) j)) (c .before .smaller .ensures))
 
-add-smaller : tie.Need-add-smaller
-add-smaller c = search needs
-
-smaller-requires-2 : tie.Need-smaller-requires-2
-smaller-requires-2 c κs = search needs
-
 up-to-repeat-requires : tie.Need-up-to-repeat-requires
 up-to-repeat-requires c κs =
     let a = c .before .before .before .before .args in
     (c .before .before .before .before .pre .0, c .before .before .before .before .pre .1, c .before .before .before .before .pre .2, units-inside (a .unit) _ (a .x + a .m) (length (a .b .now)) (omega (arith, c .smaller2 .ensures)) (c .before .before .before .before .pre .5))
-
-smaller-requires-3 : tie.Need-smaller-requires-3
-smaller-requires-3 c κs = search needs
 
 mul-t10 : tie.Need-mul-t10
 mul-t10 c = omega (arith, mul-le-mul-left (c .smaller3 .result) (c .before .before .before .before .before .before .pre .1), c .smaller3 .ensures)
@@ -61,14 +43,14 @@ pub packet-at-spec : {M : Type 1} → statement M
 packet-at-spec =
     tie.close
     (tie.spec
-    repeats-at-requires
-    smaller-requires
+    (λ c κs. search needs)
+    (λ c κs. search needs)
     equals-of-requires
-    sub-t9
+    (λ c. search needs)
     returns
-    add-smaller
-    smaller-requires-2
+    (λ c. search needs)
+    (λ c κs. search needs)
     up-to-repeat-requires
-    smaller-requires-3
+    (λ c κs. search needs)
     mul-t10
     returns-2)

@@ -25,17 +25,11 @@ put-two-requires c κs =
     let l = c .before .before .loop in
     (ahead-room (a .out .now) (a .at) (emptyPackets (a .longest) (a .s)) (l .inv) (a .longest ∷ 0 ∷ []) _ (empty-next (a .longest) (l .left) (c .before .loop-test .taken)), c .before .before .before .before .pre .0, omega arith)
 
-sub-left : tie.Need-sub-left Inv-loop μ-loop
-sub-left c = search needs
-
 add-here : tie.Need-add-here Inv-loop μ-loop
 add-here c =
     let a = c .before .before .before .before .before .before .before .args in
     let l = c .before .before .before .before .before .loop in
     omega (arith, ahead-room (a .out .now) (a .at) (emptyPackets (a .longest) (a .s)) (l .inv) (a .longest ∷ 0 ∷ []) _ (empty-next (a .longest) (l .left) (c .before .before .before .before .loop-test .taken)))
-
-loop-less : tie.Need-loop-less Inv-loop μ-loop
-loop-less c = search needs
 
 loop-again : tie.Need-loop-again Inv-loop μ-loop
 loop-again c =
@@ -60,9 +54,9 @@ put-empty-spec =
     μ-loop
     loop-holds
     put-two-requires
-    sub-left
+    (λ c. search needs)
     add-here
-    loop-less
+    (λ c. search needs)
     loop-again
     same-length
     returns)

@@ -3,7 +3,7 @@ use Rattle.house_packets.proofs.RowLaws.{stretchBytes, row-stretches, r
 use Rattle.house_packets.proofs.UnitLaws.{units-few, units-inside}
 use Rattle.house_packets.specs.Packets.{bytes, stretchPackets}
 use Rattle.house_cells.proofs.StretchLaws.{Measured, measured-first, measured-on, measured-all, Written, written-first, written-room, written-on, written-all}
-use Rattle.answer.specs.Answer.{maxWidth}
+use Rattle.format.specs.Limits.{maxWidth}
 use Rattle.words.specs.Writes.{put}
 use lib.ListN.{length}
 use native.Mathlib.Omega.{arith}
@@ -54,9 +54,6 @@ returns c =
       omega (arith, l .inv .1, l .inv .0),
     )
 
-add-put-gap : tie.Need-add-put-gap Inv-loop μ-loop
-add-put-gap c = search needs
-
 mul-put-gap : tie.Need-mul-put-gap Inv-loop μ-loop
 mul-put-gap c =
     let a = c .before .before .before .before .before .before .before .before .before .before .args in
@@ -84,9 +81,6 @@ add-count c =
     let s = c .before .before .before .before .before .before .before .before .before .next-stretch in
     let f = stretch-fits (a .unit) (a .least) (a .longest) (c .before .before .before .before .before .before .before .before .before .before .before .before .before .before .pre .0) (a .n) (c .before .before .before .before .before .before .before .before .before .before .loop .i) (s .result .gap) (s .result .changed) maxWidth (length (a .b .now)) (s .ensures .inside) (c .before .before .before .before .before .before .before .before .before .before .before .before .before .before .pre .1) (c .before .before .before .before .before .before .before .before .before .before .before .before .before .before .pre .3) in
     omega (arith, c .before .before .before .put-gap .ensures .1, f .gap-wide, f .changed-wide, c .before .before .before .before .before .before .before .before .before .before .loop .inv .1, c .before .before .before .before .before .before .before .before .before .before .loop .inv .0, units-few (a .unit) (a .n) maxWidth (c .before .before .before .before .before .before .before .before .before .before .before .before .before .before .pre .0 .some-unit) (c .before .before .before .before .before .before .before .before .before .before .before .before .before .before .pre .1))
-
-add-i : tie.Need-add-i Inv-loop μ-loop
-add-i c = search needs
 
 add-i-2 : tie.Need-add-i-2 Inv-loop μ-loop
 add-i-2 c =
@@ -124,11 +118,11 @@ put-row-spec =
     next-stretch-requires
     same-length
     returns
-    add-put-gap
+    (λ c. search needs)
     mul-put-gap
     put-gap-requires
     add-count
-    add-i
+    (λ c. search needs)
     add-i-2
     loop-less
     loop-again)

@@ -24,27 +24,12 @@ packet-at-requires c κs =
     let a = c .before .before .before .before .args in
     (c .before .before .before .before .pre .0, c .before .before .before .before .pre .1, c .before .before .before .before .pre .2, c .before .before .before .before .pre .3, omega (arith, c .loop-test .taken), units-inside (a .unit) _ (a .x + a .m) (length (a .b .now)) (omega (arith, c .before .loop .inv .place)) (c .before .before .before .before .pre .4))
 
-mul-from : tie.Need-mul-from Inv-loop μ-loop
-mul-from c = search needs
-
-add-to : tie.Need-add-to Inv-loop μ-loop
-add-to c = search needs
-
-sub-put-packet : tie.Need-sub-put-packet Inv-loop μ-loop
-sub-put-packet c = search needs
-
-part-put-packet-start : tie.Need-part-put-packet-start Inv-loop μ-loop
-part-put-packet-start c = search needs
-
-part-put-packet-end : tie.Need-part-put-packet-end Inv-loop μ-loop
-part-put-packet-end c = search needs
-
 put-packet-requires : tie.Need-put-packet-requires Inv-loop μ-loop
 put-packet-requires c κs =
     let a = c .before .before .before .before .before .before .before .before .args in
     let l = c .before .before .before .before .before .loop in
     let p = c .before .before .before .packet-at in (
-      storing-room (a .unit) (a .least) (a .b .now) (a .x) (a .m) (a .k) (a .out .now) (a .at) (l .out) (l .here) (l .skip) (l .i) (l .left) (l .count) (l .inv) (p .result .units) (p .result .kind) (p .result .len) (p .ensures),
+      storing-room (a .unit) (a .least) (a .b .now) (a .x) (a .m) (a .k) (a .out .now) (a .at) (l .out) (l .here) (l .skip) (l .i) (l .left) (l .count) (l .inv) (p .result .units) (p .result .code) (p .result .len) (p .ensures),
       l .inv .small,
       p .ensures .byte,
     )
@@ -52,21 +37,12 @@ put-packet-requires c κs =
 add-i : tie.Need-add-i Inv-loop μ-loop
 add-i c = let a = c .before .before .before .before .before .before .before .before .before .before .before .before .args in omega (arith, c .before .before .before .before .before .before .before .before .before .loop .inv .place, c .before .before .before .before .before .before .before .packet-at .ensures .inside, units-few (a .unit) (a .x + a .m) (length (a .b .now)) (c .before .before .before .before .before .before .before .before .before .before .before .before .pre .0) (c .before .before .before .before .before .before .before .before .before .before .before .before .pre .4))
 
-sub-left : tie.Need-sub-left Inv-loop μ-loop
-sub-left c = search needs
-
-add-count : tie.Need-add-count Inv-loop μ-loop
-add-count c = search needs
-
-loop-less : tie.Need-loop-less Inv-loop μ-loop
-loop-less c = search needs
-
 loop-again : tie.Need-loop-again Inv-loop μ-loop
 loop-again c =
     let a = c .before .before .before .before .before .before .before .before .before .before .before .before .before .args in
     let l = c .before .before .before .before .before .before .before .before .before .before .loop in
     let p = c .before .before .before .before .before .before .before .before .packet-at in
-    storing-on (a .unit) (a .least) (a .b .now) (a .x) (a .m) (a .k) (a .out .now) (a .at) (l .out) (l .here) (l .skip) (l .i) (l .left) (l .count) (l .inv) (p .result .units) (p .result .kind) (p .result .len) (p .ensures)
+    storing-on (a .unit) (a .least) (a .b .now) (a .x) (a .m) (a .k) (a .out .now) (a .at) (l .out) (l .here) (l .skip) (l .i) (l .left) (l .count) (l .inv) (p .result .units) (p .result .code) (p .result .len) (p .ensures)
     (c .before .before .before .before .put-packet .last .0) (c .before .before .before .before .put-packet .result) (c .before .before .before .before .put-packet .ensures)
 
 same-length : tie.Need-same-length Inv-loop μ-loop
@@ -86,16 +62,16 @@ put-units-spec =
     μ-loop
     loop-holds
     packet-at-requires
-    mul-from
-    add-to
-    sub-put-packet
-    part-put-packet-start
-    part-put-packet-end
+    (λ c. search needs)
+    (λ c. search needs)
+    (λ c. search needs)
+    (λ c. search needs)
+    (λ c. search needs)
     put-packet-requires
     add-i
-    sub-left
-    add-count
-    loop-less
+    (λ c. search needs)
+    (λ c. search needs)
+    (λ c. search needs)
     loop-again
     same-length
     returns)

@@ -12,9 +12,6 @@ returns c =
     let a = c .before .before .args in
     repeats-few (a .least) (a .unit) (a .b .now) (a .x) (a .m) (c .if1 .taken)
 
-sub-more : tie.Need-sub-more
-sub-more c = search needs
-
 add-equals-of : tie.Need-add-equals-of
 add-equals-of c = let a = c .before .before .args in omega (arith, c .if1 .left, c .before .before .pre .2, units-few (a .unit) (a .x + a .m) (length (a .b .now)) (c .before .before .pre .0) (c .before .before .pre .3))
 
@@ -29,4 +26,4 @@ returns-2 c =
     repeats-some (a .least) (a .unit) (a .b .now) (a .x) (a .m) (c .equals-of .result) (c .before .before .before .pre .2) (omega (arith, c .before .if1 .left)) (c .equals-of .ensures .0)
 
 pub repeats-at-spec : {M : Type 1} → statement M
-repeats-at-spec = tie.close (tie.spec returns sub-more add-equals-of equals-of-requires returns-2)
+repeats-at-spec = tie.close (tie.spec returns (λ c. search needs) add-equals-of equals-of-requires returns-2)

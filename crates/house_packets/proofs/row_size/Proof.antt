@@ -3,7 +3,7 @@ use Rattle.house_packets.proofs.RowLaws.{stretchBytes, row-bytes, stret
 use Rattle.house_packets.proofs.UnitLaws.{units-few}
 use Rattle.house_packets.specs.Packets.{Packet, bytes}
 use Rattle.house_cells.proofs.StretchLaws.{Measured, measured-first, measured-on, measured-all}
-use Rattle.answer.specs.Answer.{maxWidth}
+use Rattle.format.specs.Limits.{maxWidth}
 use lib.ListN.{length}
 use native.Mathlib.Omega.{arith}
 use Prim.Native.Nat.{_-_, _≤_, _*_}
@@ -37,9 +37,6 @@ returns c =
       omega arith,
     )
 
-add-gap-size : tie.Need-add-gap-size Inv-loop μ-loop
-add-gap-size c = search needs
-
 mul-gap-size : tie.Need-mul-gap-size Inv-loop μ-loop
 mul-gap-size c =
     let a = c .before .before .before .before .before .before .before .before .args in
@@ -59,12 +56,6 @@ add-size c =
     let s = c .before .before .before .before .before .next-stretch in
     let f = stretch-fits (a .unit) (a .least) (a .longest) (c .before .before .before .before .before .before .before .before .before .pre .0) (a .n) (c .before .before .before .before .before .before .loop .i) (s .result .gap) (s .result .changed) maxWidth (length (a .b .now)) (s .ensures .inside) (c .before .before .before .before .before .before .before .before .before .pre .1) (c .before .before .before .before .before .before .before .before .before .pre .3) in
     omega (arith, c .gap-size .ensures .1, f .gap-wide, f .changed-wide, c .before .before .before .before .before .before .loop .inv .1, c .before .before .before .before .before .before .loop .inv .0, units-few (a .unit) (a .n) maxWidth (c .before .before .before .before .before .before .before .before .before .pre .0 .some-unit) (c .before .before .before .before .before .before .before .before .before .pre .1))
-
-add-i : tie.Need-add-i Inv-loop μ-loop
-add-i c = search needs
-
-add-i-2 : tie.Need-add-i-2 Inv-loop μ-loop
-add-i-2 c = search needs
 
 loop-less : tie.Need-loop-less Inv-loop μ-loop
 loop-less c = omega (arith, c .before .before .before .before .before .before .before .next-stretch .ensures .inside, c .before .before .before .before .before .if1 .left)
@@ -94,11 +85,11 @@ row-size-spec =
     loop-holds
     next-stretch-requires
     returns
-    add-gap-size
+    (λ c. search needs)
     mul-gap-size
     gap-size-requires
     add-size
-    add-i
-    add-i-2
+    (λ c. search needs)
+    (λ c. search needs)
     loop-less
     loop-again)

@@ -5,18 +5,6 @@ use borrow.Author.Needs.{needs}
 use Rattle.house_packets.proofs.same_unit.Statement.{statement}
 use Rattle.house_packets.proofs.same_unit.Tie as tie
 
-mul-i : tie.Need-mul-i
-mul-i c = search needs
-
-mul-j : tie.Need-mul-j
-mul-j c = search needs
-
-shared-slice-read-if1 : tie.Need-shared-slice-read-if1
-shared-slice-read-if1 c = search needs
-
-shared-slice-read-if1-2 : tie.Need-shared-slice-read-if1-2
-shared-slice-read-if1-2 c = search needs
-
 returns : tie.Need-returns
 returns c =
     let a = c .before .before .before .args in
@@ -27,18 +15,6 @@ returns-2 c =
     let a = c .before .before .before .before .args in
     unit-one (a .b .now) (a .x * a .unit) (a .y * a .unit) (a .unit) (c .before .before .before .before .pre .0) (c .before .before .before .before .pre .1) (c .before .before .before .before .pre .2) (c .before .before .before .before .pre .3) (c .before .if1 .left) (c .if2 .taken)
 
-add-result : tie.Need-add-result
-add-result c = search needs
-
-shared-slice-read-result : tie.Need-shared-slice-read-result
-shared-slice-read-result c = search needs
-
-add-result-2 : tie.Need-add-result-2
-add-result-2 c = search needs
-
-shared-slice-read-result-2 : tie.Need-shared-slice-read-result-2
-shared-slice-read-result-2 c = search needs
-
 returns-3 : tie.Need-returns-3
 returns-3 c =
     let a = c .before .before .before .before .before .before .args in
@@ -48,14 +24,14 @@ pub same-unit-spec : {M : Type 1} → statement M
 same-unit-spec =
     tie.close
     (tie.spec
-    mul-i
-    mul-j
-    shared-slice-read-if1
-    shared-slice-read-if1-2
+    (λ c. search needs)
+    (λ c. search needs)
+    (λ c. search needs)
+    (λ c. search needs)
     returns
     returns-2
-    add-result
-    shared-slice-read-result
-    add-result-2
-    shared-slice-read-result-2
+    (λ c. search needs)
+    (λ c. search needs)
+    (λ c. search needs)
+    (λ c. search needs)
     returns-3)

@@ -7,14 +7,8 @@ use Rattle.house_packets.proofs.shortened.Tie as tie
 returns : tie.Need-returns
 returns c = shortened-none (c .before .args .longest) (c .before .args .g) (c .before .pre) (c .if1 .taken)
 
-sub-result : tie.Need-sub-result
-sub-result c = search needs
-
-div-result : tie.Need-div-result
-div-result c = search needs
-
 returns-2 : tie.Need-returns-2
 returns-2 c = shortened-some (c .before .args .longest) (c .before .args .g) (c .before .pre) (c .if1 .left)
 
 pub shortened-spec : {M : Type 1} → statement M
-shortened-spec = tie.close (tie.spec returns sub-result div-result returns-2)
+shortened-spec = tie.close (tie.spec returns (λ c. search needs) (λ c. search needs) returns-2)

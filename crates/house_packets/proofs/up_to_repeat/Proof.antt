@@ -19,9 +19,6 @@ loop-holds c = let a = c .before .args in single-first (a .least) (a .unit) (a .
 add-repeats-at : tie.Need-add-repeats-at Inv-loop μ-loop
 add-repeats-at c = let a = c .before .before .before .args in omega (arith, c .loop-test .taken, units-few (a .unit) (a .x + a .m) (length (a .b .now)) (c .before .before .before .pre .0) (c .before .before .before .pre .3))
 
-sub-repeats-at : tie.Need-sub-repeats-at Inv-loop μ-loop
-sub-repeats-at c = search needs
-
 repeats-at-requires : tie.Need-repeats-at-requires Inv-loop μ-loop
 repeats-at-requires c κs =
     let a = c .before .before .before .args in
@@ -33,12 +30,6 @@ returns c =
     let l = c .before .before .before .loop in
     let s = c .before .repeats-at in
     single-stops (a .least) (a .unit) (a .b .now) (a .x) (a .m) (l .j) (l .inv) (s .result) (c .before .before .loop-test .taken) (s .ensures) (c .if1 .taken)
-
-add-j : tie.Need-add-j Inv-loop μ-loop
-add-j c = search needs
-
-loop-less : tie.Need-loop-less Inv-loop μ-loop
-loop-less c = search needs
 
 loop-again : tie.Need-loop-again Inv-loop μ-loop
 loop-again c =
@@ -60,10 +51,10 @@ up-to-repeat-spec =
     μ-loop
     loop-holds
     add-repeats-at
-    sub-repeats-at
+    (λ c. search needs)
     repeats-at-requires
     returns
-    add-j
-    loop-less
+    (λ c. search needs)
+    (λ c. search needs)
     loop-again
     returns-2)

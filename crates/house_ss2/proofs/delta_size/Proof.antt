@@ -24,9 +24,6 @@ loop-holds c =
 next-stretch-requires : tie.Need-next-stretch-requires Inv-loop μ-loop
 next-stretch-requires c κs = omega (arith, c .before .before .before .pre)
 
-add-result : tie.Need-add-result Inv-loop μ-loop
-add-result c = search needs
-
 returns : tie.Need-returns Inv-loop μ-loop
 unfolding changedRows
 returns c =
@@ -41,12 +38,6 @@ returns c =
       omega (arith, l .inv .0, l .inv .1, c .before .before .before .before .before .before .pre .2),
     )
 
-skip-size-requires : tie.Need-skip-size-requires Inv-loop μ-loop
-skip-size-requires c κs = search needs
-
-add-lines-size : tie.Need-add-lines-size Inv-loop μ-loop
-add-lines-size c = search needs
-
 lines-size-requires : tie.Need-lines-size-requires Inv-loop μ-loop
 lines-size-requires c κs =
     let a = c .before .before .before .before .before .before .before .before .args in
@@ -58,18 +49,6 @@ lines-size-requires c κs =
       rows-inside (a .width) n (a .height) (length (a .previous .now)) x (c .before .before .before .before .before .before .before .before .pre .3),
       rows-inside (a .width) n (a .height) (length (a .next .now)) x (c .before .before .before .before .before .before .before .before .pre .4),
     )
-
-add-size : tie.Need-add-size Inv-loop μ-loop
-add-size c = search needs
-
-add-size-2 : tie.Need-add-size-2 Inv-loop μ-loop
-add-size-2 c = search needs
-
-add-i : tie.Need-add-i Inv-loop μ-loop
-add-i c = search needs
-
-add-i-2 : tie.Need-add-i-2 Inv-loop μ-loop
-add-i-2 c = search needs
 
 loop-less : tie.Need-loop-less Inv-loop μ-loop
 loop-less c = omega (arith, c .before .before .before .before .before .before .before .next-stretch .ensures .inside, c .before .before .before .before .before .if1 .left)
@@ -98,14 +77,14 @@ delta-size-spec =
     μ-loop
     loop-holds
     next-stretch-requires
-    add-result
+    (λ c. search needs)
     returns
-    skip-size-requires
-    add-lines-size
+    (λ c κs. search needs)
+    (λ c. search needs)
     lines-size-requires
-    add-size
-    add-size-2
-    add-i
-    add-i-2
+    (λ c. search needs)
+    (λ c. search needs)
+    (λ c. search needs)
+    (λ c. search needs)
     loop-less
     loop-again)

@@ -7,18 +7,6 @@ use Rattle.house_ss2.proofs.last_changes.Tie as tie
 returns : tie.Need-returns
 returns c = let a = c .before .args in changes-even (a .width) (a .a .now) (a .b .now) (c .if1 .taken)
 
-sub-result : tie.Need-sub-result
-sub-result c = search needs
-
-shared-slice-read-result : tie.Need-shared-slice-read-result
-shared-slice-read-result c = search needs
-
-sub-result-2 : tie.Need-sub-result-2
-sub-result-2 c = search needs
-
-shared-slice-read-result-2 : tie.Need-shared-slice-read-result-2
-shared-slice-read-result-2 c = search needs
-
 returns-2 : tie.Need-returns-2
 returns-2 c = let a = c .before .before .before .args in changes-odd (a .width) (a .a .now) (a .b .now) (c .before .before .if1 .left)
 
@@ -27,8 +15,8 @@ last-changes-spec =
     tie.close
     (tie.spec
     returns
-    sub-result
-    shared-slice-read-result
-    sub-result-2
-    shared-slice-read-result-2
+    (λ c. search needs)
+    (λ c. search needs)
+    (λ c. search needs)
+    (λ c. search needs)
     returns-2)

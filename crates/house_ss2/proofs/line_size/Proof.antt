@@ -10,12 +10,6 @@ use Rattle.house_ss2.proofs.line_size.Tie as tie
 row-size-requires : tie.Need-row-size-requires
 row-size-requires c κs = (pairs-form, omega (arith, c .before .before .pre), omega (arith, c .before .before .pre), omega (arith, c .before .before .pre))
 
-last-changes-requires : tie.Need-last-changes-requires
-last-changes-requires c κs = search needs
-
-add-result : tie.Need-add-result
-add-result c = search needs
-
 returns : tie.Need-returns
 returns c =
     let a = c .before .before .before .before .before .args in
@@ -23,9 +17,6 @@ returns c =
     let e = ap length (line-last (a .width) (a .a .now) (a .b .now) (sym (c .before .last-changes .ensures) ∙ c .if1 .taken)) in
     let l = counted-length (a .width) (a .a .now) (a .b .now) in
     (omega (arith, m .0, e, l), omega (arith, m .1, c .before .before .before .before .before .pre .1))
-
-add-result-2 : tie.Need-add-result-2
-add-result-2 c = search needs
 
 returns-2 : tie.Need-returns-2
 returns-2 c =
@@ -38,4 +29,4 @@ returns-2 c =
 pub line-size-spec : {M : Type 1} → statement M
 line-size-spec =
     tie.close
-    (tie.spec row-size-requires last-changes-requires add-result returns add-result-2 returns-2)
+    (tie.spec row-size-requires (λ c κs. search needs) (λ c. search needs) returns (λ c. search needs) returns-2)

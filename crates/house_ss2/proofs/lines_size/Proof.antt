@@ -28,19 +28,10 @@ row-size-requires c κs =
       row-inside (a .width) r (a .first + a .n) (length (a .next .now)) here (c .before .before .before .before .pre .4),
     )
 
-add-size : tie.Need-add-size Inv-loop μ-loop
-add-size c = search needs
-
 add-r : tie.Need-add-r Inv-loop μ-loop
 add-r c =
     let a = c .before .before .before .before .before .args in
     omega (arith, c .before .before .loop .inv .place, c .before .loop-test .taken, rows-few (a .width) (a .first + a .n) (length (a .next .now)) (c .before .before .before .before .before .pre .0) (c .before .before .before .before .before .pre .4))
-
-sub-left : tie.Need-sub-left Inv-loop μ-loop
-sub-left c = search needs
-
-loop-less : tie.Need-loop-less Inv-loop μ-loop
-loop-less c = search needs
 
 loop-again : tie.Need-loop-again Inv-loop μ-loop
 loop-again c =
@@ -63,9 +54,9 @@ lines-size-spec =
     μ-loop
     loop-holds
     row-size-requires
-    add-size
+    (λ c. search needs)
     add-r
-    sub-left
-    loop-less
+    (λ c. search needs)
+    (λ c. search needs)
     loop-again
     returns)

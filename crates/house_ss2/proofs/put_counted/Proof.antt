@@ -5,9 +5,6 @@ use borrow.Author.Needs.{needs}
 use Rattle.house_ss2.proofs.put_counted.Statement.{statement}
 use Rattle.house_ss2.proofs.put_counted.Tie as tie
 
-add-put-row : tie.Need-add-put-row
-add-put-row c = search needs
-
 put-row-requires : tie.Need-put-row-requires
 put-row-requires c κs =
     let a = c .before .before .before .before .args in
@@ -18,9 +15,6 @@ put-u16-requires c κs =
     let a = c .before .before .before .before .before .before .before .before .args in
     omega (arith, c .before .before .before .put-row .ensures .1, c .before .before .before .before .before .before .before .before .pre .0, c .before .before .before .before .before .before .before .before .pre .3, counted-length (a .width) (a .a .now) (a .b .now))
 
-same-length : tie.Need-same-length
-same-length c = search needs
-
 returns : tie.Need-returns
 returns c =
     let a = c .before .before .before .before .before .before .before .before .before .before .before .args in
@@ -29,4 +23,4 @@ returns c =
 
 pub put-counted-spec : {M : Type 1} → statement M
 put-counted-spec =
-    tie.close (tie.spec add-put-row put-row-requires put-u16-requires same-length returns)
+    tie.close (tie.spec (λ c. search needs) put-row-requires put-u16-requires (λ c. search needs) returns)

@@ -10,35 +10,17 @@ use borrow.Author.Needs.{needs}
 use Rattle.house_ss2.proofs.put_line.Statement.{statement}
 use Rattle.house_ss2.proofs.put_line.Tie as tie
 
-last-changes-requires : tie.Need-last-changes-requires
-last-changes-requires c κs = search needs
-
-sub-wide : tie.Need-sub-wide
-sub-wide c = search needs
-
-shared-slice-read-wide : tie.Need-shared-slice-read-wide
-shared-slice-read-wide c = search needs
-
-wide-requires : tie.Need-wide-requires
-wide-requires c κs = search needs
-
 put-two-requires : tie.Need-put-two-requires
 put-two-requires c κs =
     let a = c .before .before .before .before .before .before .before .before .args in
     let e = ap length (line-last (a .width) (a .a .now) (a .b .now) (sym (c .before .before .before .before .last-changes .ensures) ∙ c .before .before .before .if1 .taken)) in
     (omega (arith, e, c .before .before .before .before .before .before .before .before .pre .4), c .wide .ensures .1, omega arith)
 
-add-put-counted : tie.Need-add-put-counted
-add-put-counted c = search needs
-
 put-counted-requires : tie.Need-put-counted-requires
 put-counted-requires c κs =
     let a = c .before .before .before .before .before .before .before .before .before .before .before .before .args in
     let e = ap length (line-last (a .width) (a .a .now) (a .b .now) (sym (c .before .before .before .before .before .before .before .before .last-changes .ensures) ∙ c .before .before .before .before .before .before .before .if1 .taken)) in
     (c .before .before .before .before .before .before .before .before .before .before .before .before .pre .1, c .before .before .before .before .before .before .before .before .before .before .before .before .pre .2, c .before .before .before .before .before .before .before .before .before .before .before .before .pre .3, omega (arith, e, c .before .before .before .before .before .before .before .before .before .before .before .before .pre .4))
-
-same-length : tie.Need-same-length
-same-length c = search needs
 
 returns : tie.Need-returns
 returns c =
@@ -56,9 +38,6 @@ put-counted-requires-2 c κs =
     let e = ap length (line-plain (a .width) (a .a .now) (a .b .now) (sym (c .before .before .last-changes .ensures) ∙ c .before .if1 .left)) in
     (c .before .before .before .before .before .before .pre .1, c .before .before .before .before .before .before .pre .2, c .before .before .before .before .before .before .pre .3, omega (arith, e, c .before .before .before .before .before .before .pre .4))
 
-same-length-2 : tie.Need-same-length-2
-same-length-2 c = search needs
-
 returns-2 : tie.Need-returns-2
 returns-2 c =
     let a = c .before .before .before .before .before .before .before .before .before .args in
@@ -70,15 +49,15 @@ pub put-line-spec : {M : Type 1} → statement M
 put-line-spec =
     tie.close
     (tie.spec
-    last-changes-requires
-    sub-wide
-    shared-slice-read-wide
-    wide-requires
+    (λ c κs. search needs)
+    (λ c. search needs)
+    (λ c. search needs)
+    (λ c κs. search needs)
     put-two-requires
-    add-put-counted
+    (λ c. search needs)
     put-counted-requires
-    same-length
+    (λ c. search needs)
     returns
     put-counted-requires-2
-    same-length-2
+    (λ c. search needs)
     returns-2)

@@ -5,36 +5,12 @@ use Rattle.house_cells.specs.Cells.{Cell}
 use Rattle.words.proofs.Laws.{part-length}
 use Rattle.words.specs.Writes.{put}
 use lib.ListN.{length}
-use Prim.Native.Nat.{_+_, _*_}
+use Prim.Native.Nat.{_*_}
 use native.Mathlib.Omega.{arith}
 use mathlib.Core.Path.{ap, _∙_}
 use borrow.Author.Needs.{needs}
 use Rattle.house_ss2.proofs.put_row.Statement.{statement}
 use Rattle.house_ss2.proofs.put_row.Tie as tie
-
-mul-a : tie.Need-mul-a
-mul-a c = search needs
-
-add-e : tie.Need-add-e
-add-e c = search needs
-
-sub-put-line : tie.Need-sub-put-line
-sub-put-line c = search needs
-
-part-put-line-start : tie.Need-part-put-line-start
-part-put-line-start c = search needs
-
-part-put-line-end : tie.Need-part-put-line-end
-part-put-line-end c = search needs
-
-sub-put-line-2 : tie.Need-sub-put-line-2
-sub-put-line-2 c = search needs
-
-part-put-line-start-2 : tie.Need-part-put-line-start-2
-part-put-line-start-2 c = search needs
-
-part-put-line-end-2 : tie.Need-part-put-line-end-2
-part-put-line-end-2 c = search needs
 
 put-line-requires : tie.Need-put-line-requires
 put-line-requires c κs =
@@ -47,9 +23,6 @@ put-line-requires c κs =
       omega (arith, e, c .before .before .before .before .before .before .pre .4),
     )
 
-same-length : tie.Need-same-length
-same-length c = search needs
-
 returns : tie.Need-returns
 returns c =
     let a = c .before .before .before .before .before .before .before .before .before .args in
@@ -61,14 +34,14 @@ pub put-row-spec : {M : Type 1} → statement M
 put-row-spec =
     tie.close
     (tie.spec
-    mul-a
-    add-e
-    sub-put-line
-    part-put-line-start
-    part-put-line-end
-    sub-put-line-2
-    part-put-line-start-2
-    part-put-line-end-2
+    (λ c. search needs)
+    (λ c. search needs)
+    (λ c. search needs)
+    (λ c. search needs)
+    (λ c. search needs)
+    (λ c. search needs)
+    (λ c. search needs)
+    (λ c. search needs)
     put-line-requires
-    same-length
+    (λ c. search needs)
     returns)

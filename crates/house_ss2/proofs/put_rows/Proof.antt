@@ -2,12 +2,10 @@
 use Rattle.house_ss2.proofs.RowLaws.{rows, rows-inside, stretch-rows}
 use Rattle.house_ss2.specs.Delta.{stretchLines, changedRows, lineCount}
 use Rattle.house_cells.proofs.StretchLaws.{Measured, measured-first, measured-on, measured-all, Written, written-first, written-room, written-on, written-all}
-use Rattle.house_cells.specs.Cells.{Cell, Stretch}
 use lib.ListN.{length}
 use native.Mathlib.Omega.{arith}
 use Prim.Native.Nat.{_-_, _+_, _≤_}
 use mathlib.Core.Path.{refl}
-use mathlib.Core.List.{List}
 use borrow.Author.Needs.{needs}
 use Rattle.house_ss2.proofs.put_rows.Statement.{statement}
 use Rattle.house_ss2.proofs.put_rows.Tie as tie
@@ -61,15 +59,6 @@ put-stretch-requires c κs =
       written-room (a .width) (a .height) (a .previous .now) (a .next .now) (stretchLines (a .width)) (a .out .now) (a .at) (l .out) (l .here) (l .i) (s .result .gap) (s .result .changed) (s .ensures) (l .inv .3) _ refl (omega (arith, c .before .if1 .left)),
     )
 
-add-count : tie.Need-add-count Inv-loop μ-loop
-add-count c = search needs
-
-add-i : tie.Need-add-i Inv-loop μ-loop
-add-i c = search needs
-
-add-i-2 : tie.Need-add-i-2 Inv-loop μ-loop
-add-i-2 c = search needs
-
 loop-less : tie.Need-loop-less Inv-loop μ-loop
 loop-less c = omega (arith, c .before .before .before .before .before .before .before .before .before .next-stretch .ensures .inside, c .before .before .before .before .before .before .before .if1 .left)
 
@@ -99,8 +88,8 @@ put-rows-spec =
     same-length
     returns
     put-stretch-requires
-    add-count
-    add-i
-    add-i-2
+    (λ c. search needs)
+    (λ c. search needs)
+    (λ c. search needs)
     loop-less
     loop-again)

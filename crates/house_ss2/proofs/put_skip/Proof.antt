@@ -15,17 +15,8 @@ returns c =
     let e = skip-none (a .g) (c .if1 .taken) in
     (omega (arith, ap length e), sym (ap (put (a .out .now) (a .at)) e ∙ put-nil (a .out .now) (a .at)))
 
-sub-put-u16 : tie.Need-sub-put-u16
-sub-put-u16 c = search needs
-
 put-u16-requires : tie.Need-put-u16-requires
 put-u16-requires c κs = omega (arith, c .before .before .before .pre, ap length (skip-some (c .before .before .before .args .g) (omega (arith, c .before .if1 .left))), c .before .if1 .left)
-
-add-result : tie.Need-add-result
-add-result c = search needs
-
-same-length : tie.Need-same-length
-same-length c = search needs
 
 returns-2 : tie.Need-returns-2
 returns-2 c =
@@ -35,4 +26,4 @@ returns-2 c =
 
 pub put-skip-spec : {M : Type 1} → statement M
 put-skip-spec =
-    tie.close (tie.spec returns sub-put-u16 put-u16-requires add-result same-length returns-2)
+    tie.close (tie.spec returns (λ c. search needs) put-u16-requires (λ c. search needs) (λ c. search needs) returns-2)

@@ -22,9 +22,6 @@ put-lines-requires c κs =
     let a = c .before .before .before .before .before .before .before .before .args in
     omega (arith, c .before .before .before .before .before .before .before .before .pre, c .before .before .before .put-skip .ensures .0, stretch-length (a .width) (a .i) (a .g) (a .n) (a .previous .now) (a .next .now))
 
-same-length : tie.Need-same-length
-same-length c = search needs
-
 returns : tie.Need-returns
 returns c =
     let a = c .before .before .before .before .before .before .before .before .before .before .before .args in
@@ -36,4 +33,4 @@ returns c =
 
 pub put-stretch-spec : {M : Type 1} → statement M
 put-stretch-spec =
-    tie.close (tie.spec put-skip-requires add-put-lines put-lines-requires same-length returns)
+    tie.close (tie.spec put-skip-requires add-put-lines put-lines-requires (λ c. search needs) returns)

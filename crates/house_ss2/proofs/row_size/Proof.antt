@@ -8,33 +8,6 @@ use borrow.Author.Needs.{needs}
 use Rattle.house_ss2.proofs.row_size.Statement.{statement}
 use Rattle.house_ss2.proofs.row_size.Tie as tie
 
-mul-a : tie.Need-mul-a
-mul-a c = search needs
-
-add-e : tie.Need-add-e
-add-e c = search needs
-
-sub-line-size : tie.Need-sub-line-size
-sub-line-size c = search needs
-
-part-line-size-start : tie.Need-part-line-size-start
-part-line-size-start c = search needs
-
-part-line-size-end : tie.Need-part-line-size-end
-part-line-size-end c = search needs
-
-sub-line-size-2 : tie.Need-sub-line-size-2
-sub-line-size-2 c = search needs
-
-part-line-size-start-2 : tie.Need-part-line-size-start-2
-part-line-size-start-2 c = search needs
-
-part-line-size-end-2 : tie.Need-part-line-size-end-2
-part-line-size-end-2 c = search needs
-
-line-size-requires : tie.Need-line-size-requires
-line-size-requires c κs = search needs
-
 returns : tie.Need-returns
 returns c =
     let a = c .before .before .before .before .before .args in
@@ -45,13 +18,13 @@ pub row-size-spec : {M : Type 1} → statement M
 row-size-spec =
     tie.close
     (tie.spec
-    mul-a
-    add-e
-    sub-line-size
-    part-line-size-start
-    part-line-size-end
-    sub-line-size-2
-    part-line-size-start-2
-    part-line-size-end-2
-    line-size-requires
+    (λ c. search needs)
+    (λ c. search needs)
+    (λ c. search needs)
+    (λ c. search needs)
+    (λ c. search needs)
+    (λ c. search needs)
+    (λ c. search needs)
+    (λ c. search needs)
+    (λ c κs. search needs)
     returns)

@@ -5,9 +5,6 @@ use borrow.Author.Needs.{needs}
 use Rattle.house_ss2.proofs.write_delta.Statement.{statement}
 use Rattle.house_ss2.proofs.write_delta.Tie as tie
 
-add-put-rows : tie.Need-add-put-rows
-add-put-rows c = search needs
-
 put-rows-requires : tie.Need-put-rows-requires
 put-rows-requires c κs =
     let a = c .before .before .before .before .args in
@@ -18,9 +15,6 @@ put-u16-requires c κs =
     let a = c .before .before .before .before .before .before .before .before .args in
     omega (arith, c .before .before .before .put-rows .ensures .1, c .before .before .before .before .before .before .before .before .pre .2, c .before .before .before .before .before .before .before .before .pre .5, body-length (a .width) (a .height) (a .previous .now) (a .next .now))
 
-same-length : tie.Need-same-length
-same-length c = search needs
-
 returns : tie.Need-returns
 returns c =
     let a = c .before .before .before .before .before .before .before .before .before .before .before .args in
@@ -29,4 +23,4 @@ returns c =
 
 pub write-delta-spec : {M : Type 1} → statement M
 write-delta-spec =
-    tie.close (tie.spec add-put-rows put-rows-requires put-u16-requires same-length returns)
+    tie.close (tie.spec (λ c. search needs) put-rows-requires put-u16-requires (λ c. search needs) returns)

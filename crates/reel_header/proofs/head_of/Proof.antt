@@ -4,7 +4,7 @@ use Prim.Native.Nat.{_≤_}
 use native.Mathlib.Omega.{arith}
 use borrow.Author.Tests.{not-true, not-false}
 use lib.ListN.{length}
-use Rattle.answer.specs.Format.{FLC-MAGIC}
+use Rattle.format.specs.Format.{FLC-MAGIC}
 use Rattle.words.specs.Words.{u16At, u32At}
 use Rattle.chunks.specs.Spans.{HEADER-BYTES}
 use Rattle.reel_header.specs.Head.{SIZE-AT, MAGIC-AT}
@@ -20,14 +20,8 @@ sized c = let s = c .before .before .u32-at .ensures .value in (omega arith, sym
 returns : tie.Need-returns
 returns c = head-cut (c .before .before .args .b .now) (c .if1 .taken)
 
-u16-at-requires : tie.Need-u16-at-requires
-u16-at-requires c κs = search needs
-
 returns-2 : tie.Need-returns-2
 returns-2 c = head-magic (c .before .before .before .before .args .b .now) (c .before .before .if1 .left) (λ e. c .if2 .taken (c .before .u16-at .ensures .value ∙ e))
-
-u32-at-requires : tie.Need-u32-at-requires
-u32-at-requires c κs = search needs
 
 returns-3 : tie.Need-returns-3
 returns-3 c = let s = c .before .u32-at .ensures .value in head-small (c .before .before .before .before .before .before .args .b .now) (c .before .before .before .before .if1 .left) (sym (c .before .before .before .u16-at .ensures .value) ∙ c .before .before .if2 .left) (omega arith)
@@ -35,43 +29,16 @@ returns-3 c = let s = c .before .u32-at .ensures .value in head-small (c .before
 returns-4 : tie.Need-returns-4
 returns-4 c = let s = c .before .before .u32-at .ensures .value in head-large (c .before .before .before .before .before .before .before .args .b .now) (c .before .before .before .before .before .if1 .left) (sym (c .before .before .before .before .u16-at .ensures .value) ∙ c .before .before .before .if2 .left) (omega arith) (omega arith)
 
-u16-at-requires-2 : tie.Need-u16-at-requires-2
-u16-at-requires-2 c κs = search needs
-
-u16-at-requires-3 : tie.Need-u16-at-requires-3
-u16-at-requires-3 c κs = search needs
-
-size-ok-requires : tie.Need-size-ok-requires
-size-ok-requires c κs = search needs
-
 returns-5 : tie.Need-returns-5
 returns-5 c =
     let z = sized ((c .before .before .before .before)) in
     head-size (c .before .before .before .before .before .before .before .before .before .before .before .args .b .now) (z .0) (z .1) (z .2) (z .3) _ _ (c .before .before .before .u16-at2 .ensures .value) (c .before .before .u16-at3 .ensures .value) (sym (c .before .size-ok .ensures) ∙ not-true _ (c .if5 .taken))
-
-u16-at-requires-4 : tie.Need-u16-at-requires-4
-u16-at-requires-4 c κs = search needs
-
-u16-at-requires-5 : tie.Need-u16-at-requires-5
-u16-at-requires-5 c κs = search needs
-
-u16-at-requires-6 : tie.Need-u16-at-requires-6
-u16-at-requires-6 c κs = search needs
-
-form-ok-requires : tie.Need-form-ok-requires
-form-ok-requires c κs = search needs
 
 returns-6 : tie.Need-returns-6
 returns-6 c =
     let z = sized ((c .before .before .before .before .before .before .before .before .before)) in
     head-form (c .before .before .before .before .before .before .before .before .before .before .before .before .before .before .before .before .args .b .now) (z .0) (z .1) (z .2) (z .3) _ _ (c .before .before .before .before .before .before .before .before .u16-at2 .ensures .value) (c .before .before .before .before .before .before .before .u16-at3 .ensures .value) _ _ _ (c .before .before .before .before .u16-at4 .ensures .value) (c .before .before .before .u16-at5 .ensures .value) (c .before .before .u16-at6 .ensures .value)
     (sym (c .before .before .before .before .before .before .size-ok .ensures) ∙ not-false _ (c .before .before .before .before .before .if5 .left)) (sym (c .before .form-ok .ensures) ∙ not-true _ (c .if6 .taken))
-
-u32-at-requires-2 : tie.Need-u32-at-requires-2
-u32-at-requires-2 c κs = search needs
-
-cast-t16 : tie.Need-cast-t16
-cast-t16 c = search needs
 
 returns-7 : tie.Need-returns-7
 returns-7 c =
@@ -84,20 +51,20 @@ head-of-spec =
     tie.close
     (tie.spec
     returns
-    u16-at-requires
+    (λ c κs. search needs)
     returns-2
-    u32-at-requires
+    (λ c κs. search needs)
     returns-3
     returns-4
-    u16-at-requires-2
-    u16-at-requires-3
-    size-ok-requires
+    (λ c κs. search needs)
+    (λ c κs. search needs)
+    (λ c κs. search needs)
     returns-5
-    u16-at-requires-4
-    u16-at-requires-5
-    u16-at-requires-6
-    form-ok-requires
+    (λ c κs. search needs)
+    (λ c κs. search needs)
+    (λ c κs. search needs)
+    (λ c κs. search needs)
     returns-6
-    u32-at-requires-2
-    cast-t16
+    (λ c κs. search needs)
+    (λ c. search needs)
     returns-7)

@@ -4,14 +4,8 @@ use borrow.Author.Needs.{needs}
 use Rattle.reel_header.proofs.second_at.Statement.{statement}
 use Rattle.reel_header.proofs.second_at.Tie as tie
 
-u32-at-requires : tie.Need-u32-at-requires
-u32-at-requires c κs = search needs
-
-add-result : tie.Need-add-result
-add-result c = search needs
-
 returns : tie.Need-returns
 returns c = second-is (c .before .before .args .bytes .now) _ (c .u32-at .ensures .value)
 
 pub second-at-spec : {M : Type 1} → statement M
-second-at-spec = tie.close (tie.spec u32-at-requires add-result returns)
+second-at-spec = tie.close (tie.spec (λ c κs. search needs) (λ c. search needs) returns)

@@ -12,38 +12,8 @@ use Rattle.reel_header.proofs.write_header.Tie as tie
 half : (c : tie.After-put-u164) → length (c .put-u164 .last .0) ≡ 128
 half c = omega arith
 
-fill-requires : tie.Need-fill-requires
-fill-requires c κs = search needs
-
-put-u16-requires : tie.Need-put-u16-requires
-put-u16-requires c κs = search needs
-
-put-u16-requires-2 : tie.Need-put-u16-requires-2
-put-u16-requires-2 c κs = search needs
-
-put-u16-requires-3 : tie.Need-put-u16-requires-3
-put-u16-requires-3 c κs = search needs
-
-put-u16-requires-4 : tie.Need-put-u16-requires-4
-put-u16-requires-4 c κs = search needs
-
-put-u32-requires : tie.Need-put-u32-requires
-put-u32-requires c κs = search needs
-
-put-u32-requires-2 : tie.Need-put-u32-requires-2
-put-u32-requires-2 c κs = search needs
-
-put-u32-requires-3 : tie.Need-put-u32-requires-3
-put-u32-requires-3 c κs = search needs
-
-aspect-of-requires : tie.Need-aspect-of-requires
-aspect-of-requires c κs = search needs
-
 put-u16-requires-5 : tie.Need-put-u16-requires-5
 put-u16-requires-5 c κs = (omega (arith, half (c .before .before .before .before .before .before .before .before .before .before .before .before .before .before .before .before)), c .aspect-of .ensures .1)
-
-aspect-of-requires-2 : tie.Need-aspect-of-requires-2
-aspect-of-requires-2 c κs = search needs
 
 put-u16-requires-6 : tie.Need-put-u16-requires-6
 put-u16-requires-6 c κs = (omega (arith, half (c .before .before .before .before .before .before .before .before .before .before .before .before .before .before .before .before .before .before .before .before .before)), c .aspect-of2 .ensures .1)
@@ -63,17 +33,17 @@ pub write-header-spec : {M : Type 1} → statement M
 write-header-spec =
     tie.close
     (tie.spec
-    fill-requires
-    put-u16-requires
-    put-u16-requires-2
-    put-u16-requires-3
-    put-u16-requires-4
-    put-u32-requires
-    put-u32-requires-2
-    put-u32-requires-3
-    aspect-of-requires
+    (λ c κs. search needs)
+    (λ c κs. search needs)
+    (λ c κs. search needs)
+    (λ c κs. search needs)
+    (λ c κs. search needs)
+    (λ c κs. search needs)
+    (λ c κs. search needs)
+    (λ c κs. search needs)
+    (λ c κs. search needs)
     put-u16-requires-5
-    aspect-of-requires-2
+    (λ c κs. search needs)
     put-u16-requires-6
     same-length
     returns)

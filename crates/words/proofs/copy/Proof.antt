@@ -18,29 +18,8 @@ Inv-loop dst₀ src i₀ dst i = (i ≤ length src) × (dst ≡ map itself (take
 abbrev μ-loop : tie.MeasureT-loop
 μ-loop dst₀ src i₀ dst i = length src - i
 
-copy-few-requires : tie.Need-copy-few-requires Inv-loop μ-loop
-copy-few-requires c κs = search needs
-
-same-length : tie.Need-same-length Inv-loop μ-loop
-same-length c = search needs
-
 returns : tie.Need-returns Inv-loop μ-loop
 returns c = c .before .before .copy-few .ensures
-
-loop-holds : tie.Need-loop-holds Inv-loop μ-loop
-loop-holds c = search needs
-
-shared-slice-read-dst : tie.Need-shared-slice-read-dst Inv-loop μ-loop
-shared-slice-read-dst c = search needs
-
-slice-write-dst : tie.Need-slice-write-dst Inv-loop μ-loop
-slice-write-dst c = search needs
-
-add-i : tie.Need-add-i Inv-loop μ-loop
-add-i c = search needs
-
-loop-less : tie.Need-loop-less Inv-loop μ-loop
-loop-less c = search needs
 
 loop-again : tie.Need-loop-again Inv-loop μ-loop
 loop-again c =
@@ -50,9 +29,6 @@ loop-again c =
       (ap (λ (x : List ℕ). set x (l .i) (getD (a .src .now) (l .i) 0)) (l .inv .1) ∙ map-more itself (l .i) (a .src .now) (a .dst .now) (omega arith) (omega arith)),
       search needs,
     )
-
-same-length-2 : tie.Need-same-length-2 Inv-loop μ-loop
-same-length-2 c = search needs
 
 returns-2 : tie.Need-returns-2 Inv-loop μ-loop
 returns-2 c =
@@ -66,14 +42,14 @@ copy-spec =
     (tie.spec
     Inv-loop
     μ-loop
-    copy-few-requires
-    same-length
+    (λ c κs. search needs)
+    (λ c. search needs)
     returns
-    loop-holds
-    shared-slice-read-dst
-    slice-write-dst
-    add-i
-    loop-less
+    (λ c. search needs)
+    (λ c. search needs)
+    (λ c. search needs)
+    (λ c. search needs)
+    (λ c. search needs)
     loop-again
-    same-length-2
+    (λ c. search needs)
     returns-2)

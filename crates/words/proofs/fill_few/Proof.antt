@@ -6,20 +6,11 @@ use Rattle.words.proofs.Runs.{few-filled}
 use Rattle.words.proofs.fill_few.Statement.{statement}
 use Rattle.words.proofs.fill_few.Tie as tie
 
-slice-write-part : tie.Need-slice-write-part
-slice-write-part c = search needs
-
 slice-write-part-2 : tie.Need-slice-write-part-2
 slice-write-part-2 c = simp length-set (omega arith)
 
-sub-part : tie.Need-sub-part
-sub-part c = search needs
-
 slice-write-part-3 : tie.Need-slice-write-part-3
 slice-write-part-3 c = simp length-set (omega arith)
-
-same-length : tie.Need-same-length
-same-length c = search needs
 
 returns : tie.Need-returns
 returns c = few-filled (c .args .part .now) (c .args .value) (omega arith) (omega arith)
@@ -27,4 +18,4 @@ returns c = few-filled (c .args .part .now) (c .args .value) (omega arith) (omeg
 pub fill-few-spec : {M : Type 1} → statement M
 fill-few-spec =
     tie.close
-    (tie.spec slice-write-part slice-write-part-2 sub-part slice-write-part-3 same-length returns)
+    (tie.spec (λ c. search needs) slice-write-part-2 (λ c. search needs) slice-write-part-3 (λ c. search needs) returns)

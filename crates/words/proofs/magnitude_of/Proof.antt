@@ -7,15 +7,6 @@ use borrow.Author.Needs.{needs}
 use Rattle.words.proofs.magnitude_of.Statement.{statement}
 use Rattle.words.proofs.magnitude_of.Tie as tie
 
-wide-requires : tie.Need-wide-requires
-wide-requires c κs = search needs
-
-wide-requires-2 : tie.Need-wide-requires-2
-wide-requires-2 c κs = search needs
-
-sub-result : tie.Need-sub-result
-sub-result c = search needs
-
 returns : tie.Need-returns
 returns c = (c .wide .ensures .0 ∙ sym (magnitude-plus _ (c .before .if1 .taken)), omega arith)
 
@@ -23,4 +14,4 @@ returns-2 : tie.Need-returns-2
 returns-2 c = (ap (λ (n : ℕ). 256 - n) (c .wide2 .ensures .0) ∙ sym (magnitude-minus _ (c .before .if1 .left)), omega arith)
 
 pub magnitude-of-spec : {M : Type 1} → statement M
-magnitude-of-spec = tie.close (tie.spec wide-requires wide-requires-2 sub-result returns returns-2)
+magnitude-of-spec = tie.close (tie.spec (λ c κs. search needs) (λ c κs. search needs) (λ c. search needs) returns returns-2)

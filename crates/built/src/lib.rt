@@ -1,1 +1,0 @@
-// A reel that was opened, added to and closed shows every state asked for: theorems over the definitions, no code.

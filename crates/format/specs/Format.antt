@@ -1,0 +1,47 @@
+-- The magic of a file, the types of its chunks, the kinds of sub-chunks, by the names of document 001, and the levels of kind 11.
+use Prim.Native.Nat.{ℕ, _*_}
+
+-- hex AF12
+abbrev pub FLC-MAGIC : ℕ
+FLC-MAGIC = 44818
+
+-- hex F1FA
+abbrev pub FRAME-TYPE : ℕ
+FRAME-TYPE = 61946
+
+-- hex F100
+abbrev pub PREFIX-TYPE : ℕ
+PREFIX-TYPE = 61696
+
+abbrev pub FLI-COLOR256 : ℕ
+FLI-COLOR256 = 4
+
+abbrev pub FLI-SS2 : ℕ
+FLI-SS2 = 7
+
+abbrev pub FLI-COLOR : ℕ
+FLI-COLOR = 11
+
+abbrev pub FLI-LC : ℕ
+FLI-LC = 12
+
+abbrev pub FLI-BLACK : ℕ
+FLI-BLACK = 13
+
+abbrev pub FLI-BRUN : ℕ
+FLI-BRUN = 15
+
+abbrev pub FLI-COPY : ℕ
+FLI-COPY = 16
+
+-- the postage stamp
+abbrev pub FLI-PSTAMP : ℕ
+FLI-PSTAMP = 18
+
+-- "a kind 11 component over 63" is refused
+abbrev pub maxLevel : ℕ
+maxLevel = 63
+
+-- "Kind 11 stores each component times 4": one of 64 levels as one of 256
+unfoldable pub raised : ℕ → ℕ
+raised x = x * 4

@@ -1,0 +1,175 @@
+-- Demand 2 for one frame: for every two states of one size, the house frame from s to t, read against s, is accepted and gives t (`house-reads-back`).
+-- The idea: each chunk that may be chosen reads back by itself, the choice takes one that is no longer than COPY, so that its size fits the field,
+-- and a frame plays as its sub-chunks do.
+use mathlib.Core.Path.{_≡_, refl, sym, ap, subst}
+use mathlib.Core.List.{List, [], _∷_, _++_, flatten}
+use mathlib.Core.Bool.{true, cond}
+use Prim.Native.Nat.{ℕ, _+_, _≤_, _<_}
+use native.Mathlib.Omega.{arith}
+use lib.Dec.{leb, ltb}
+use lib.ListN.{length}
+use borrow.Author.Tests.{leb-true, ltb-true}
+use Rattle.words.specs.Words.{chunk, same, Bytes}
+use Rattle.words.specs.Writes.{applied}
+use Rattle.words.proofs.Laws.{length-chunk, same-eq}
+use Rattle.words.proofs.Tests.{by-test}
+use Rattle.state.specs.State.{State, Picture, Exact}
+use Rattle.format.specs.Limits.{area}
+use Rattle.format.specs.declared.Size.{Size}
+use Rattle.format.specs.Format.{FLI-COLOR256, FLI-SS2, FLI-BLACK, FLI-BRUN, FLI-COPY}
+use Rattle.walk.specs.Walk.{Walk}
+use Rattle.walk.proofs.Gives.{Gives}
+use Rattle.read_colour.specs.Colour.{colour}
+use Rattle.read_colour.specs.declared.Levels.the-variants.{Of256}
+use Rattle.read_full.specs.Full.{black, copied}
+use Rattle.read_brun.specs.Brun.{brun}
+use Rattle.read_ss2.specs.Ss2.{ss2}
+use Rattle.read_frame.specs.Frame.{ChunkWalk, onPicture, onPalette, subChunk, frame}
+use Rattle.house_colour.specs.Colours.{colourBody}
+use Rattle.house_colour.proofs.ReadsBack.{colour-reads-back, colour-short}
+use Rattle.house_ss2.specs.Delta.{deltaBody}
+use Rattle.house_ss2.proofs.ReadsBack.{delta-reads-back}
+use Rattle.house_full.specs.Full.{brunBody, allZero, shorter, fullChunk}
+use Rattle.house_full.proofs.Laws.{sized-small}
+use Rattle.house_full.proofs.ReadsBack.{brun-reads-back, copy-reads-back, black-reads-back}
+use Rattle.house_frame.specs.House.{colourChunk, deltaChunk, pictureChunk, changed, houseChunks, houseFrame, pictureMost, frameMost}
+use Rattle.house_frame.proofs.Laws.{house-short}
+use Rattle.house_back.specs.Plays.{Acts, Plays}
+use Rattle.house_back.proofs.Frames.{Subs, none, sub, length-framed, framed-plays}
+
+-- a walk on the picture or on the palette
+
+on-picture : (k : Walk) (end : ℕ) (p q r : List ℕ) → Gives k end p q → Acts (onPicture k) p r q r
+unfolding applied
+on-picture k end p q r g = record { end = end; ended = g .ended; picture = g .result; palette = refl }
+
+on-palette : (k : Walk) (end : ℕ) (p q r : List ℕ) → Gives k end p q → Acts (onPalette k) r p r q
+unfolding applied
+on-palette k end p q r g = record { end = end; ended = g .ended; picture = refl; palette = g .result }
+
+-- the kinds that the house form has
+
+module _ (z : Size) (b : List ℕ) where
+  colour-walk : subChunk z FLI-COLOR256 b ≡ onPalette (colour Of256 b)
+  unfolding subChunk
+  colour-walk = refl
+
+  delta-walk : subChunk z FLI-SS2 b ≡ onPicture (ss2 (z .width) (z .height) b)
+  unfolding subChunk
+  delta-walk = refl
+
+  pub black-walk : subChunk z FLI-BLACK b ≡ onPicture (black (area z))
+  unfolding subChunk
+  black-walk = refl
+
+  pub brun-walk : subChunk z FLI-BRUN b ≡ onPicture (brun (z .width) (z .height) b)
+  unfolding subChunk
+  brun-walk = refl
+
+  pub copy-walk : subChunk z FLI-COPY b ≡ onPicture (copied (area z) b)
+  unfolding subChunk
+  copy-walk = refl
+
+acts-as : {c d : ChunkWalk} {p q p′ q′ : List ℕ} → c ≡ d → Acts d p q p′ q′ → Acts c p q p′ q′
+acts-as {c} {d} {p} {q} {p′} {q′} e x = subst (λ (k : ChunkWalk). Acts k p q p′ q′) (sym e) x
+
+-- a chunk x that gives the picture q from p, no longer than COPY's may be
+pub record Good (z : Size) (p q x : List ℕ) : Type 0 where
+  pub kind : ℕ
+  pub coloured : kind ≡ FLI-COLOR256 → ⊥
+  pub body : List ℕ
+  pub is : x ≡ chunk kind body
+  pub short : length x ≤ pictureMost
+  pub acts : (r : List ℕ) → Acts (subChunk z kind body) p r q r
+
+module _ (z : Size) (p q : List ℕ) (zp : Picture (z .width) (z .height) p) (zq : Picture (z .width) (z .height) q) (bq : Bytes q) where
+  abbrev w : ℕ
+  w = z .width
+
+  abbrev h : ℕ
+  h = z .height
+
+  good : (kind : ℕ) (body : List ℕ) (k : Walk) (end : ℕ) → (kind ≡ FLI-COLOR256 → ⊥) → subChunk z kind body ≡ onPicture k → Gives k end p q
+      → length (chunk kind body) ≤ pictureMost → Good z p q (chunk kind body)
+  good kind body k end other e g l =
+      record { kind = kind; coloured = other; body = body; is = refl; short = l; acts = λ r. acts-as e (on-picture k end p q r g) }
+
+  good-copy : Good z p q (chunk FLI-COPY q)
+  good-copy =
+      good FLI-COPY q (copied (area z) q) (length q) (λ e. omega arith) (copy-walk z q) (copy-reads-back w h p q (zp .pixels) (zq .pixels))
+      (omega (arith, length-chunk FLI-COPY q, sized-small zq))
+
+  good-brun : length (chunk FLI-BRUN (brunBody w h q)) ≤ pictureMost → Good z p q (chunk FLI-BRUN (brunBody w h q))
+  good-brun =
+      good FLI-BRUN (brunBody w h q) (brun w h (brunBody w h q)) (length (brunBody w h q)) (λ e. omega arith)
+      (brun-walk z (brunBody w h q)) (brun-reads-back w h p q (zp .pixels) (zq .pixels))
+
+  good-black : allZero q ≡ true → Good z p q (chunk FLI-BLACK [])
+  good-black e =
+      good FLI-BLACK [] (black (area z)) 0 (λ i. omega arith) (black-walk z []) (black-reads-back w h p q (zp .pixels) (zq .pixels) e) (omega (arith, length-chunk FLI-BLACK []))
+
+  good-delta : length (deltaChunk z p q) ≤ pictureMost → Good z p q (deltaChunk z p q)
+  unfolding deltaChunk
+  good-delta =
+      good FLI-SS2 (deltaBody w h p q) (ss2 w h (deltaBody w h p q)) (length (deltaBody w h p q)) (λ e. omega arith)
+      (delta-walk z (deltaBody w h p q)) (delta-reads-back w h p q (zq .size .some-wide) (zq .size .wide) (zq .size .high) (zp .pixels) (zq .pixels) bq)
+
+  good-shorter : (x y : List ℕ) → (length x ≤ length y → Good z p q x) → Good z p q y → Good z p q (shorter x y)
+  unfolding shorter
+  good-shorter x y f g = by-test (λ t. Good z p q (cond t x y)) (leb (length x) (length y)) (λ e. f (leb-true (length x) (length y) e)) (λ e. g)
+
+  good-full : Good z p q (fullChunk w h q)
+  unfolding fullChunk
+  good-full =
+      let rows = chunk FLI-BRUN (brunBody w h q) in
+      let other : Good z p q (shorter rows (chunk FLI-COPY q)) =
+      good-shorter rows (chunk FLI-COPY q) (λ (l : length rows ≤ length (chunk FLI-COPY q)). good-brun (omega (arith, good-copy .short))) good-copy in
+      by-test (λ t. Good z p q (cond t (shorter (chunk FLI-BLACK []) (shorter rows (chunk FLI-COPY q))) (shorter rows (chunk FLI-COPY q)))) (allZero q)
+      (λ e. good-shorter (chunk FLI-BLACK []) (shorter rows (chunk FLI-COPY q)) (λ l. good-black e) other) (λ e. other)
+
+  pub good-picture : Good z p q (pictureChunk z p q)
+  unfolding pictureChunk
+  good-picture =
+      by-test (λ t. Good z p q (cond t (deltaChunk z p q) (fullChunk w h q))) (ltb (length (deltaChunk z p q)) (length (fullChunk w h q)))
+      (λ e. good-delta (omega (arith, ltb-true (length (deltaChunk z p q)) (length (fullChunk w h q)) e, good-full .short))) (λ e. good-full)
+
+  -- the picture's sub-chunk, if there is one
+  picture-gives : (r : List ℕ) → Subs z (changed p q (pictureChunk z p q)) p r q r
+  picture-gives r =
+      let g = good-picture in
+      by-test (λ t. Subs z (cond t [] (pictureChunk z p q ∷ [])) p r q r) (same p q)
+      (λ e. subst (λ (x : List ℕ). Subs z [] p r x r) (same-eq p q e) (none {p = p} {q = r}))
+      (λ e. subst (λ (x : List ℕ). Subs z (x ∷ []) p r q r) (sym (g .is))
+      (sub (g .kind) (g .body) q r (omega (arith, g .short, ap length (g .is), length-chunk (g .kind) (g .body))) (g .acts r) (none {p = q} {q = r})))
+
+  -- the colour sub-chunk, if there is one, and then the picture's
+  module _ (u v : List ℕ) (lu : length u ≡ 768) (lv : length v ≡ 768) where
+    frame-gives : Subs z (changed u v (colourChunk u v) ++ changed p q (pictureChunk z p q)) p u q v
+    unfolding colourChunk
+    frame-gives =
+        by-test (λ t. Subs z (cond t [] (chunk FLI-COLOR256 (colourBody u v) ∷ []) ++ changed p q (pictureChunk z p q)) p u q v) (same u v)
+        (λ e. subst (λ (x : List ℕ). Subs z (changed p q (pictureChunk z p q)) p u q x) (same-eq u v e) (picture-gives u))
+        (λ e. sub FLI-COLOR256 (colourBody u v) p v (omega (arith, colour-short u v lu lv))
+        (acts-as (colour-walk z (colourBody u v)) (on-palette (colour Of256 (colourBody u v)) (length (colourBody u v)) u v p (colour-reads-back u v lu lv)))
+        (picture-gives v))
+
+-- a state of just that size whose pixels are bytes
+pub record ByteState (z : Size) (s : State) : Type 0 where
+  pub exact : Exact z s
+  pub bytes : Bytes (s .picture)
+
+module _ {z : Size} {s t : State} (zs : ByteState z s) (zt : ByteState z t) where
+  -- the house frame lies well within 32 bits
+  pub house-small : length (houseFrame z s t) ≤ frameMost
+  house-small = house-short (zs .exact) (zt .exact)
+
+  -- the sizes of its sub-chunks too
+  pub subs-small : 16 + length (flatten (houseChunks z s t)) < 4294967296
+  unfolding houseFrame
+  subs-small = omega (arith, house-small, length-framed (houseChunks z s t))
+
+  pub house-reads-back : Plays (frame z (houseFrame z s t)) (s .picture) (s .palette) (t .picture) (t .palette)
+  unfolding houseFrame houseChunks
+  house-reads-back =
+      framed-plays z (houseChunks z s t) (s .picture) (s .palette) (t .picture) (t .palette) subs-small
+      (frame-gives z (s .picture) (t .picture) (zs .exact .picture) (zt .exact .picture) (zt .bytes) (s .palette) (t .palette) (zs .exact .colours) (zt .exact .colours))

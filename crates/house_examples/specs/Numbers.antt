@@ -1,0 +1,104 @@
+-- Document 01, "Numbers to try (P: proved)": one table. `holds` computes each item from the definitions of reading and of the house form.
+use Prim.Native.Nat.{ℕ, zero, suc, _+_}
+use mathlib.Core.List.{List, [], _∷_, _++_}
+use mathlib.Core.Bool.{Bool, true, false, _&&_}
+use lib.Dec.{eqb}
+use lib.ListN.{length, getD, replicate}
+use Rattle.words.specs.Words.{same}
+use Rattle.words.specs.Writes.{Write}
+use Rattle.answer.specs.Answer.{number}
+use Rattle.state.specs.State.{State, blank}
+use Rattle.format.specs.Format.{FLI-COLOR256, FLI-SS2}
+use Rattle.format.specs.Limits.{sizeOf}
+use Rattle.walk.specs.declared.Verdict.{Verdict}
+use Rattle.walk.specs.declared.Verdict.the-variants.{Ends, Fault}
+use Rattle.read_frame.specs.Frame.{subChunk}
+use Rattle.house_rows.specs.Row.{houseBytes}
+use Rattle.house_ss2.specs.Delta.{deltaBody}
+use Rattle.house_frame.specs.House.{houseFrame}
+
+-- what a body does: it is accepted and sets these bytes from that index on and nothing else, or it is refused with a number
+pub data Effect : Type 0 where
+  sets : ℕ → List ℕ → Effect
+  refusedWith : ℕ → Effect
+
+-- an item of the table
+pub data Number : Type 0 where
+  -- the pixels of a row, and its BRUN packets
+  row : (pixels bytes : List ℕ) → Number
+  -- the pixels of a row, how many bytes its packets take, and the first of them
+  rowTakes : (pixels : List ℕ) (size first : ℕ) → Number
+  -- a size, a previous and a next state, and the frame that leads from one to the other
+  writes : (width height : ℕ) (old new : State) (bytes : List ℕ) → Number
+  -- a size, a previous and a next picture, and the body of the delta
+  delta : (width height : ℕ) (old new bytes : List ℕ) → Number
+  -- the body of a sub-chunk of a kind, read in a picture of that size
+  reads : (width height kind : ℕ) (body : List ℕ) → Effect → Number
+
+-- exactly one write, of v from index at on
+abbrev pub isOne : List Write → ℕ → List ℕ → Bool
+isOne [] at v = false
+isOne (w ∷ []) at v = eqb (w .at) at && same (w .bytes) v
+isOne (w ∷ (w′ ∷ ws)) at v = false
+
+abbrev pub does : List Write → Verdict → Effect → Bool
+does ws (Ends end) (sets at v) = isOne ws at v
+does ws (Ends end) (refusedWith n) = false
+does ws (Fault e) (sets at v) = false
+does ws (Fault e) (refusedWith n) = eqb (number e) n
+
+unfoldable pub holds : Number → Bool
+holds (row pixels bytes) = same (houseBytes pixels) bytes
+holds (rowTakes pixels size first) = eqb (length (houseBytes pixels)) size && eqb (getD (houseBytes pixels) 0 0) first
+holds (writes w h old new bytes) = same (houseFrame (sizeOf w h) old new) bytes
+holds (delta w h old new bytes) = same (deltaBody w h old new) bytes
+holds (reads w h kind body effect) =
+    let c = subChunk (sizeOf w h) kind body in
+    does (c .pixels ++ c .colours) (c .verdict) effect
+
+unfoldable pub all : List Number → Bool
+all [] = true
+all (n ∷ ns) = holds n && all ns
+
+-- a picture with the palette of blank
+abbrev pub shows : List ℕ → State
+shows p = record { picture = p; palette = replicate 768 0 }
+
+-- n numbers that count up from i
+unfoldable pub upFrom : ℕ → ℕ → List ℕ
+upFrom i zero = []
+upFrom i (suc n) = i ∷ upFrom (i + 1) n
+
+-- a pixel of 1 and a pixel of 2, n times
+unfoldable pub stripes : ℕ → List ℕ
+stripes zero = []
+stripes (suc n) = 1 ∷ 2 ∷ stripes n
+
+unfoldable pub numbers : List Number
+numbers =
+    -- "`1 1 2` gives 02 01 01 02; `1 2 2 3` gives FC 01 02 02 03; 130 nines give 7F 09 03 09"
+    row (1 ∷ 1 ∷ 2 ∷ []) (0x02 ∷ 0x01 ∷ 0x01 ∷ 0x02 ∷ [])
+    ∷ row (1 ∷ 2 ∷ 2 ∷ 3 ∷ []) (0xfc ∷ 0x01 ∷ 0x02 ∷ 0x02 ∷ 0x03 ∷ [])
+    ∷ row (replicate 130 9) (0x7f ∷ 0x09 ∷ 0x03 ∷ 0x09 ∷ [])
+    -- "129 pixels, no neighbours equal, take 131 bytes, first packet a repeat of 1": all different, and only two colours
+    ∷ rowTakes (upFrom 0 129) 131 1
+    ∷ rowTakes (2 ∷ stripes 64) 131 1
+    -- "4 by 2, blank to rows `0 0 0 0`, `5 5 5 5`: 1C 00 00 00 FA F1 01 00, eight 00, 0C 00 00 00 0F 00 01 04 00 01 04 05"
+    ∷ writes 4 2 (blank 8) (shows (0 ∷ 0 ∷ 0 ∷ 0 ∷ 5 ∷ 5 ∷ 5 ∷ 5 ∷ []))
+    (0x1c ∷ 0x00 ∷ 0x00 ∷ 0x00 ∷ 0xfa ∷ 0xf1 ∷ 0x01 ∷ 0x00 ∷ replicate 8 0x00 ++ (0x0c ∷ 0x00 ∷ 0x00 ∷ 0x00 ∷ 0x0f ∷ 0x00 ∷ 0x01 ∷ 0x04 ∷ 0x00 ∷ 0x01 ∷ 0x04 ∷ 0x05 ∷ []))
+    -- "2 by 1, `0 0` to `1 2`: COPY, 8 bytes. No change at all: a 16-byte frame"
+    ∷ writes 2 1 (blank 2) (shows (1 ∷ 2 ∷ []))
+    (0x18 ∷ 0x00 ∷ 0x00 ∷ 0x00 ∷ 0xfa ∷ 0xf1 ∷ 0x01 ∷ 0x00 ∷ replicate 8 0x00 ++ (0x08 ∷ 0x00 ∷ 0x00 ∷ 0x00 ∷ 0x10 ∷ 0x00 ∷ 0x01 ∷ 0x02 ∷ []))
+    ∷ writes 2 1 (shows (1 ∷ 2 ∷ [])) (shows (1 ∷ 2 ∷ [])) (0x10 ∷ 0x00 ∷ 0x00 ∷ 0x00 ∷ 0xfa ∷ 0xf1 ∷ replicate 10 0x00)
+    -- "100 by 1, pixels 0 to 99, columns 10 and 11 to 0: kind 7 body 01 00 01 00 0A 01 00 00", in a frame of 30 bytes
+    ∷ delta 100 1 (upFrom 0 100) (upFrom 0 10 ++ (0 ∷ 0 ∷ upFrom 12 88)) (0x01 ∷ 0x00 ∷ 0x01 ∷ 0x00 ∷ 0x0a ∷ 0x01 ∷ 0x00 ∷ 0x00 ∷ [])
+    ∷ writes 100 1 (shows (upFrom 0 100)) (shows (upFrom 0 10 ++ (0 ∷ 0 ∷ upFrom 12 88)))
+    (0x1e ∷ 0x00 ∷ 0x00 ∷ 0x00 ∷ 0xfa ∷ 0xf1 ∷ 0x01 ∷ 0x00 ∷ replicate 8 0x00 ++ (0x0e ∷ 0x00 ∷ 0x00 ∷ 0x00 ∷ 0x07 ∷ 0x00 ∷ 0x01 ∷ 0x00 ∷ 0x01 ∷ 0x00 ∷ 0x0a ∷ 0x01 ∷ 0x00 ∷ 0x00 ∷ []))
+    -- "width 5, kind 7 body 01 00 09 80 00 00 sets column 4 to 9, nothing else"
+    ∷ reads 5 1 FLI-SS2 (0x01 ∷ 0x00 ∷ 0x09 ∷ 0x80 ∷ 0x00 ∷ 0x00 ∷ []) (sets 4 (9 ∷ []))
+    -- "skip 255 count 1 is accepted; skip 255 count 2 is 12"
+    ∷ reads 1 1 FLI-COLOR256 (0x01 ∷ 0x00 ∷ 0xff ∷ 0x01 ∷ 7 ∷ 8 ∷ 9 ∷ []) (sets 765 (7 ∷ 8 ∷ 9 ∷ []))
+    ∷ reads 1 1 FLI-COLOR256 (0x01 ∷ 0x00 ∷ 0xff ∷ 0x02 ∷ 7 ∷ 8 ∷ 9 ∷ 10 ∷ 11 ∷ 12 ∷ []) (refusedWith 12)
+    -- "Row skip FF FF on height 1 is 10"
+    ∷ reads 1 1 FLI-SS2 (0x01 ∷ 0x00 ∷ 0xff ∷ 0xff ∷ []) (refusedWith 10)
+    ∷ []

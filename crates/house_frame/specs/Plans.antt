@@ -1,0 +1,40 @@
+-- What is planned of a frame before it is written: what the contracts of the functions below `write_house` cite.
+use mathlib.Core.List.{List, [], _∷_}
+use Prim.Native.Nat.{ℕ}
+use lib.Dec.{ltb}
+use lib.ListN.{length}
+use Rattle.words.specs.Words.{le16, le32, same}
+use mathlib.Core.Bool.{cond}
+use Rattle.format.specs.declared.Size.{Size}
+use Rattle.format.specs.Format.{FRAME-TYPE, FLI-COLOR256, FLI-SS2}
+use Rattle.house_full.specs.Full.{fullChunk, fullKind}
+use Rattle.house_frame.specs.House.{colourChunk, deltaChunk}
+use Rattle.house_frame.specs.declared.ChunkPlan.{ChunkPlan}
+
+-- no sub-chunk
+abbrev pub nothing : ChunkPlan
+nothing = record { chunks = 0; kind = 0; size = 0 }
+
+-- a sub-chunk of a kind, with the bytes b
+abbrev pub planned : ℕ → List ℕ → ChunkPlan
+planned kind b = record { chunks = 1; kind = kind; size = length b }
+
+-- the plan of the colour chunk from one palette to the next
+unfoldable pub colourPlan : List ℕ → List ℕ → ChunkPlan
+unfolding colourChunk
+colourPlan previous next = cond (same previous next) nothing (planned FLI-COLOR256 (colourChunk previous next))
+
+-- the plan of the picture chunk from one picture to the next
+unfoldable pub picturePlan : Size → List ℕ → List ℕ → ChunkPlan
+unfolding deltaChunk
+picturePlan z previous next =
+    let delta = deltaChunk z previous next in
+    let full = fullChunk (z .width) (z .height) next in
+    cond (same previous next) nothing
+    (cond (ltb (length delta) (length full))
+    (planned FLI-SS2 delta)
+    (planned (fullKind (z .width) (z .height) next) full))
+
+-- a frame's header: size, type F1FA, count, "the 8 reserved bytes are 0"
+unfoldable pub headerBytes : ℕ → ℕ → List ℕ
+headerBytes size count = le32 size (le16 FRAME-TYPE (le16 count (0 ∷ 0 ∷ 0 ∷ 0 ∷ 0 ∷ 0 ∷ 0 ∷ 0 ∷ [])))

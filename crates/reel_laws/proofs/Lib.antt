@@ -1,0 +1,5 @@
+pub mod Laps
+pub mod Frames
+pub mod Kept
+pub mod Making
+pub mod Built

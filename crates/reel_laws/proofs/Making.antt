@@ -1,0 +1,128 @@
+-- What an open and accepted adds leave: the open header, then frames that lead to each state asked for in turn, then whatever lay behind.
+-- An add puts one more such frame at the record's end, a refused one nothing.
+use mathlib.Core.Path.{_≡_, refl, sym, ap, ap₂, _∙_, subst}
+use mathlib.Core.List.{List, [], _∷_, _++_, append-assoc}
+use mathlib.Core.Bool.{Bool, true, false, _&&_, cond}
+use Prim.Native.Nat.{ℕ, _+_, _≤_}
+use native.Mathlib.Omega.{arith}
+use borrow.Author.Tests.{ltb-true}
+use lib.Dec.{leb, ltb}
+use lib.ListN.{length, drop, length-append}
+use Rattle.words.specs.Words.{Bytes}
+use Rattle.words.specs.Writes.{put}
+use Rattle.words.proofs.Laws.{put-front, bytes-take}
+use Rattle.words.proofs.There.{put-behind}
+use Rattle.words.proofs.Tests.{both-true}
+use Rattle.format.specs.Limits.{sizeOk, area, maxFrames}
+use Rattle.format.specs.declared.Size.{Size}
+use Rattle.answer.specs.Answer.{done}
+use Rattle.answer.specs.declared.Refusal.{Refusal}
+use Rattle.answer.specs.declared.Refusal.the-variants.{ShortSlice, BadSize, NoRoom, Cut, WrongTime}
+use Rattle.state.specs.State.{State, blank, front, enough}
+use Rattle.state.specs.Outcome.{Memory, lentBytes, leaves}
+use Rattle.state.proofs.Laws.{front-exact}
+use Rattle.chunks.specs.Spans.{HEADER-BYTES}
+use Rattle.house_frame.specs.House.{houseFrame}
+use Rattle.house_back.proofs.ReadsBack.{ByteState}
+use Rattle.reel_header.specs.Written.{opened}
+use Rattle.reel_header.proofs.Laws.{opened-length}
+use Rattle.reel_build.specs.declared.Reel.{Reel}
+use Rattle.reel_build.specs.Record.{reelOf, noReel, ReelOutcome, builds, keeps}
+use Rattle.reel_build.specs.Building.{openReel, endOk, fits, addFrame}
+use Rattle.reel_laws.specs.Laps.{lastOf}
+use Rattle.reel_laws.specs.Building.{Making, opening, adding, refusing}
+use Rattle.reel_laws.proofs.Kept.{add-refused}
+use Rattle.reel_laws.proofs.Frames.{Leads, Shows, none, shows-add, Each, no-state, each-add, each-last, house-leads, byte-start}
+
+-- an accepted call has passed a test
+passed : (t : Bool) (x : ReelOutcome) (r₀ : Reel) (e : Refusal) (m n : Memory) (r : Reel) → cond t x (keeps r₀ e 0 m) ≡ builds r (leaves (done []) n)
+    → (t ≡ true) × (x ≡ builds r (leaves (done []) n))
+passed true x r₀ e m n r d = (refl, d)
+passed false x r₀ e m n r d = let f = ap (λ (y : ReelOutcome). y .left .said) d in let z : _≡_ {A = ℕ} 0 1 = cc in absurd (omega arith)
+
+-- the invariant
+
+module _ (z : Size) (speed : ℕ) where
+  abbrev top : List ℕ
+  top = opened (z .width) (z .height) speed
+
+  pub record Holds (b : List ℕ) (r : Reel) (asked : List State) : Type 0 where
+    pub size : sizeOk (z .width) (z .height) ≡ true
+    pub frames : List ℕ
+    pub shows : Shows z (blank (area z)) asked frames
+    pub is : r ≡ reelOf z (length asked) (HEADER-BYTES + length frames) false
+    pub rest : List ℕ
+    pub bytes : b ≡ opened (z .width) (z .height) speed ++ (frames ++ rest)
+    pub each-sized : Each z asked
+    pub few : length asked ≤ maxFrames
+
+  open-holds : (b b′ : List ℕ) (r : Reel) → openReel z speed b ≡ builds r (leaves (done []) (lentBytes b′)) → Holds b′ r []
+  unfolding openReel
+  open-holds b b′ r e =
+      let f = passed (sizeOk (z .width) (z .height)) _ noReel BadSize (lentBytes b) (lentBytes b′) r e in
+      let g = passed (leb HEADER-BYTES (length b)) _ noReel NoRoom (lentBytes b) (lentBytes b′) r (f .1) in
+      record {
+        size = f .0;
+        frames = [];
+        shows = none;
+        is = sym (ap (λ (o : ReelOutcome). o .reel) (g .1));
+        rest = drop (length top) b;
+        bytes = sym (ap (λ (o : ReelOutcome). o .left .memory .bytes) (g .1)) ∙ put-front b top;
+        each-sized = no-state;
+        few = omega arith;
+      }
+
+  -- a frame put behind the others
+  behind : (b fs rest f : List ℕ) → b ≡ top ++ (fs ++ rest) → put b (HEADER-BYTES + length fs) f ≡ top ++ ((fs ++ f) ++ drop (length f) rest)
+  behind b fs rest f e =
+      ap (λ (x : List ℕ). put x (HEADER-BYTES + length fs) f) (e ∙ sym (append-assoc top fs rest))
+      ∙ put-behind (top ++ fs) rest f (HEADER-BYTES + length fs) (length-append top fs ∙ ap (λ (x : ℕ). x + length fs) (opened-length (z .width) (z .height) speed))
+      ∙ append-assoc top fs (f ++ drop (length f) rest)
+      ∙ ap (λ (x : List ℕ). top ++ x) (sym (append-assoc fs f (drop (length f) rest)))
+
+  pub put-after : {b : List ℕ} {r : Reel} {asked : List State} (i : Holds b r asked) (f : List ℕ)
+      → put b (HEADER-BYTES + length (i .frames)) f ≡ opened (z .width) (z .height) speed ++ ((i .frames ++ f) ++ drop (length f) (i .rest))
+  put-after {b} i f = behind b (i .frames) (i .rest) f (i .bytes)
+
+  add-holds : (b b′ : List ℕ) (r r′ : Reel) (asked : List State) (s t : State) → Bytes (t .picture) → Holds b r asked
+      → front (area z) s ≡ lastOf (blank (area z)) asked → addFrame r b s t ≡ builds r′ (leaves (done []) (lentBytes b′))
+      → Holds b′ r′ (asked ++ (front (area z) t ∷ []))
+  unfolding addFrame
+  add-holds b b′ r r′ asked s t by i from e =
+      let n = area z in
+      let u = front n t in
+      let fs = i .frames in
+      let f = houseFrame z (front n s) u in
+      let k = length asked in
+      let end = HEADER-BYTES + length fs in
+      let r₀ = reelOf z k end false in
+      let m = lentBytes b in
+      let m′ = lentBytes b′ in
+      let e₀ : addFrame r₀ b s t ≡ builds r′ (leaves (done []) m′) = subst (λ (x : Reel). addFrame x b s t ≡ builds r′ (leaves (done []) m′)) (i .is) e in
+      let e₁ = passed (ltb k maxFrames) _ r₀ WrongTime m m′ r′ e₀ in
+      let e₂ = passed (sizeOk (z .width) (z .height)) _ r₀ BadSize m m′ r′ (e₁ .1) in
+      let e₃ = passed (enough n s && enough n t) _ r₀ ShortSlice m m′ r′ (e₂ .1) in
+      let e₄ = passed (endOk end (length b)) _ r₀ Cut m m′ r′ (e₃ .1) in
+      let e₅ = passed (fits end f b) _ r₀ NoRoom m m′ r′ (e₄ .1) in
+      let more = length-append asked (u ∷ []) in
+      let sized : ByteState z u = record { exact = front-exact z t (i .size) n refl (both-true (enough n s) (enough n t) (e₃ .0) .1); bytes = bytes-take n (t .picture) by } in
+      let before = each-last z (i .each-sized) (byte-start z (i .size)) in
+      record {
+        size = i .size;
+        frames = fs ++ f;
+        shows = shows-add z (i .shows) (subst (λ (x : State). Leads z (houseFrame z x u) (lastOf (blank n) asked) u) (sym from) (house-leads z before sized));
+        is =
+            sym (ap (λ (o : ReelOutcome). o .reel) (e₅ .1))
+            ∙ ap₂ (λ (x y : ℕ). reelOf z x y false) (sym more) (omega (arith, length-append fs f));
+        rest = drop (length f) (i .rest);
+        bytes = sym (ap (λ (o : ReelOutcome). o .left .memory .bytes) (e₅ .1)) ∙ put-after i f;
+        each-sized = each-add z (i .each-sized) sized;
+        few = omega (arith, more, ltb-true k maxFrames (e₁ .0));
+      }
+
+  pub making-holds : {b : List ℕ} {r : Reel} {asked : List State} → Making z speed b r asked → Holds b r asked
+  making-holds (opening b {b′} {r} e) = open-holds b b′ r e
+  making-holds (adding {b} {b′} {r} {r′} {asked} m s t by from e) = add-holds b b′ r r′ asked s t by (making-holds m) from e
+  making-holds (refusing {b} {r} {asked} m s t n place e) =
+      let k = add-refused r b s t n place e in
+      subst (λ (x : List ℕ). Holds x (addFrame r b s t .reel) asked) (sym (k .0)) (subst (λ (x : Reel). Holds b x asked) (sym (k .1)) (making-holds m))
