@@ -1,185 +1,10 @@
-//! The calls of include/flic.h, and all the unsafe code there is: each call is handed whole slices.
+//! The calls of the codec, with their refusals as the crate's.
 
 use crate::refusal::{Refusal, Refused, Result};
-use std::borrow::Cow;
+use flic_boundary as codec;
 use std::ops::Range;
 
-/// No frame that is written has more bytes.
-pub const FRAME_MOST: usize = 65_310;
-/// No listing has more bytes.
-pub const LIST_MOST: usize = 218_047;
-
-#[repr(C)]
-struct Answer {
-    number: u32,
-    place: u64,
-}
-
-#[repr(C)]
-struct Written {
-    number: u32,
-    place: u64,
-    length: u64,
-}
-
-/// A reel being built, as it goes from call to call.
-#[repr(C)]
-#[derive(Clone, Copy, Debug)]
-pub struct Record {
-    width: u64,
-    height: u64,
-    frames: u64,
-    end: u64,
-    closed: u32,
-}
-
-#[repr(C)]
-struct ReelAnswer {
-    number: u32,
-    place: u64,
-    reel: Record,
-}
-
-/// What a file header says.
-#[repr(C)]
-pub struct Header {
-    number: u32,
-    place: u64,
-    pub width: u64,
-    pub height: u64,
-    pub frames: u64,
-    pub size: u64,
-    pub speed: u32,
-}
-
-#[repr(C)]
-struct Span {
-    number: u32,
-    place: u64,
-    from: u64,
-    end: u64,
-}
-
-impl Record {
-    pub fn frames(&self) -> usize {
-        self.frames as usize
-    }
-
-    pub fn end(&self) -> usize {
-        self.end as usize
-    }
-}
-
-/// A lent picture and palette that are only looked at.
-#[derive(Clone, Copy)]
-pub struct Pair<'a> {
-    pub picture: &'a [u8],
-    pub palette: &'a [u8],
-}
-
-/// A lent picture and palette that are changed.
-pub struct PairMut<'a> {
-    pub picture: &'a mut [u8],
-    pub palette: &'a mut [u8],
-}
-
-extern "C" {
-    fn flic_read_frame(
-        bytes: *const u8,
-        bytes_len: usize,
-        width: u64,
-        height: u64,
-        picture: *mut u8,
-        picture_len: usize,
-        palette: *mut u8,
-        palette_len: usize,
-    ) -> Answer;
-
-    fn flic_write_frame(
-        width: u64,
-        height: u64,
-        previous_picture: *const u8,
-        previous_picture_len: usize,
-        previous_palette: *const u8,
-        previous_palette_len: usize,
-        next_picture: *const u8,
-        next_picture_len: usize,
-        next_palette: *const u8,
-        next_palette_len: usize,
-        out: *mut u8,
-        out_len: usize,
-    ) -> Written;
-
-    fn flic_rewrite_frame(
-        bytes: *const u8,
-        bytes_len: usize,
-        width: u64,
-        height: u64,
-        previous_picture: *const u8,
-        previous_picture_len: usize,
-        previous_palette: *const u8,
-        previous_palette_len: usize,
-        work_picture: *mut u8,
-        work_picture_len: usize,
-        work_palette: *mut u8,
-        work_palette_len: usize,
-        out: *mut u8,
-        out_len: usize,
-    ) -> Written;
-
-    fn flic_check_reel(
-        bytes: *const u8,
-        bytes_len: usize,
-        first_picture: *mut u8,
-        first_picture_len: usize,
-        first_palette: *mut u8,
-        first_palette_len: usize,
-        second_picture: *mut u8,
-        second_picture_len: usize,
-        second_palette: *mut u8,
-        second_palette_len: usize,
-    ) -> Answer;
-
-    fn flic_open_reel(width: u64, height: u64, speed: u32, bytes: *mut u8, bytes_len: usize) -> ReelAnswer;
-
-    fn flic_add_frame(
-        reel: Record,
-        bytes: *mut u8,
-        bytes_len: usize,
-        shown_picture: *const u8,
-        shown_picture_len: usize,
-        shown_palette: *const u8,
-        shown_palette_len: usize,
-        next_picture: *const u8,
-        next_picture_len: usize,
-        next_palette: *const u8,
-        next_palette_len: usize,
-    ) -> ReelAnswer;
-
-    fn flic_close_reel(
-        reel: Record,
-        bytes: *mut u8,
-        bytes_len: usize,
-        first_picture: *mut u8,
-        first_picture_len: usize,
-        first_palette: *mut u8,
-        first_palette_len: usize,
-        second_picture: *mut u8,
-        second_picture_len: usize,
-        second_palette: *mut u8,
-        second_palette_len: usize,
-    ) -> ReelAnswer;
-
-    fn flic_check_trailer(bytes: *const u8, bytes_len: usize) -> Answer;
-
-    fn flic_write_trailer(bytes: *mut u8, bytes_len: usize) -> Written;
-
-    fn flic_list(bytes: *const u8, bytes_len: usize, out: *mut u8, out_len: usize) -> Written;
-
-    fn flic_read_header(bytes: *const u8, bytes_len: usize) -> Header;
-
-    fn flic_next_frame(bytes: *const u8, bytes_len: usize, at: u64) -> Span;
-}
+pub use flic_boundary::{Pair, PairMut, Reel as Record, FRAME_MOST, LIST_MOST};
 
 fn result(number: u32, place: u64) -> Result<()> {
     if number == 0 {
@@ -190,66 +15,24 @@ fn result(number: u32, place: u64) -> Result<()> {
     Err(Refused { refusal, place })
 }
 
-fn length(written: Written) -> Result<usize> {
+fn answer(codec::Answer { number, place }: codec::Answer) -> Result<()> {
+    result(number, place)
+}
+
+fn length(written: codec::Written) -> Result<usize> {
     result(written.number, written.place).map(|()| written.length as usize)
 }
 
-fn record(answer: ReelAnswer) -> Result<Record> {
+fn record(answer: codec::ReelAnswer) -> Result<Record> {
     result(answer.number, answer.place).map(|()| answer.reel)
 }
 
-/// The slice itself, or a copy where it overlaps one of the others: no two lent slices of a call may.
-fn apart<'a>(slice: &'a [u8], others: &[&[u8]]) -> Cow<'a, [u8]> {
-    let range = slice.as_ptr_range();
-    let overlaps = |other: &&[u8]| {
-        let other = other.as_ptr_range();
-        range.start < other.end && other.start < range.end
-    };
-    match others.iter().any(overlaps) {
-        true => Cow::Owned(slice.to_vec()),
-        false => Cow::Borrowed(slice),
-    }
-}
-
-// SAFETY, for every call below: each pointer goes with its own slice's length and isn't null; a slice that is lent to
-// be changed is lent alone, and slices that are only looked at are kept apart by `apart` where a caller could make
-// them overlap.
-
 pub fn read_frame(bytes: &[u8], width: u64, height: u64, shown: PairMut) -> Result<()> {
-    let answer = unsafe {
-        flic_read_frame(
-            bytes.as_ptr(),
-            bytes.len(),
-            width,
-            height,
-            shown.picture.as_mut_ptr(),
-            shown.picture.len(),
-            shown.palette.as_mut_ptr(),
-            shown.palette.len(),
-        )
-    };
-    result(answer.number, answer.place)
+    answer(codec::read_frame(bytes, width, height, shown))
 }
 
 pub fn write_frame(width: u64, height: u64, previous: Pair, next: Pair, out: &mut [u8]) -> Result<usize> {
-    let picture = apart(next.picture, &[previous.picture]);
-    let palette = apart(next.palette, &[previous.palette]);
-    length(unsafe {
-        flic_write_frame(
-            width,
-            height,
-            previous.picture.as_ptr(),
-            previous.picture.len(),
-            previous.palette.as_ptr(),
-            previous.palette.len(),
-            picture.as_ptr(),
-            picture.len(),
-            palette.as_ptr(),
-            palette.len(),
-            out.as_mut_ptr(),
-            out.len(),
-        )
-    })
+    length(codec::write_frame(width, height, previous, next, out))
 }
 
 pub fn rewrite_frame(
@@ -260,128 +43,50 @@ pub fn rewrite_frame(
     work: PairMut,
     out: &mut [u8],
 ) -> Result<usize> {
-    let bytes = apart(bytes, &[previous.picture, previous.palette]);
-    length(unsafe {
-        flic_rewrite_frame(
-            bytes.as_ptr(),
-            bytes.len(),
-            width,
-            height,
-            previous.picture.as_ptr(),
-            previous.picture.len(),
-            previous.palette.as_ptr(),
-            previous.palette.len(),
-            work.picture.as_mut_ptr(),
-            work.picture.len(),
-            work.palette.as_mut_ptr(),
-            work.palette.len(),
-            out.as_mut_ptr(),
-            out.len(),
-        )
-    })
+    length(codec::rewrite_frame(bytes, width, height, previous, work, out))
 }
 
 pub fn check_reel(bytes: &[u8], first: PairMut, second: PairMut) -> Result<()> {
-    let answer = unsafe {
-        flic_check_reel(
-            bytes.as_ptr(),
-            bytes.len(),
-            first.picture.as_mut_ptr(),
-            first.picture.len(),
-            first.palette.as_mut_ptr(),
-            first.palette.len(),
-            second.picture.as_mut_ptr(),
-            second.picture.len(),
-            second.palette.as_mut_ptr(),
-            second.palette.len(),
-        )
-    };
-    result(answer.number, answer.place)
+    answer(codec::check_reel(bytes, first, second))
 }
 
 pub fn open_reel(width: u64, height: u64, speed: u32, bytes: &mut [u8]) -> Result<Record> {
-    record(unsafe { flic_open_reel(width, height, speed, bytes.as_mut_ptr(), bytes.len()) })
+    record(codec::open_reel(width, height, speed, bytes))
 }
 
 pub fn add_frame(reel: Record, bytes: &mut [u8], shown: Pair, next: Pair) -> Result<Record> {
-    let picture = apart(next.picture, &[shown.picture]);
-    let palette = apart(next.palette, &[shown.palette]);
-    record(unsafe {
-        flic_add_frame(
-            reel,
-            bytes.as_mut_ptr(),
-            bytes.len(),
-            shown.picture.as_ptr(),
-            shown.picture.len(),
-            shown.palette.as_ptr(),
-            shown.palette.len(),
-            picture.as_ptr(),
-            picture.len(),
-            palette.as_ptr(),
-            palette.len(),
-        )
-    })
+    record(codec::add_frame(reel, bytes, shown, next))
 }
 
 pub fn close_reel(reel: Record, bytes: &mut [u8], first: PairMut, second: PairMut) -> Result<Record> {
-    record(unsafe {
-        flic_close_reel(
-            reel,
-            bytes.as_mut_ptr(),
-            bytes.len(),
-            first.picture.as_mut_ptr(),
-            first.picture.len(),
-            first.palette.as_mut_ptr(),
-            first.palette.len(),
-            second.picture.as_mut_ptr(),
-            second.picture.len(),
-            second.palette.as_mut_ptr(),
-            second.palette.len(),
-        )
-    })
+    record(codec::close_reel(reel, bytes, first, second))
 }
 
 pub fn check_trailer(bytes: &[u8]) -> Result<()> {
-    let answer = unsafe { flic_check_trailer(bytes.as_ptr(), bytes.len()) };
-    result(answer.number, answer.place)
+    answer(codec::check_trailer(bytes))
 }
 
 pub fn write_trailer(bytes: &mut [u8]) -> Result<usize> {
-    length(unsafe { flic_write_trailer(bytes.as_mut_ptr(), bytes.len()) })
+    length(codec::write_trailer(bytes))
 }
 
 pub fn list(bytes: &[u8], out: &mut [u8]) -> Result<usize> {
-    length(unsafe { flic_list(bytes.as_ptr(), bytes.len(), out.as_mut_ptr(), out.len()) })
+    length(codec::list(bytes, out))
 }
 
-pub fn read_header(bytes: &[u8]) -> Result<Header> {
-    let header = unsafe { flic_read_header(bytes.as_ptr(), bytes.len()) };
+pub fn read_header(bytes: &[u8]) -> Result<codec::Header> {
+    let header = codec::read_header(bytes);
     result(header.number, header.place).map(|()| header)
 }
 
 pub fn next_frame(bytes: &[u8], at: usize) -> Result<Range<usize>> {
-    let span = unsafe { flic_next_frame(bytes.as_ptr(), bytes.len(), at as u64) };
+    let span = codec::next_frame(bytes, at as u64);
     result(span.number, span.place).map(|()| span.from as usize..span.end as usize)
 }
 
 #[cfg(test)]
 mod tests {
     use super::*;
-
-    #[test]
-    fn the_most_bytes_are_those_of_the_header_for_c() {
-        let header = include_str!("../../include/flic.h");
-        assert!(header.contains(&format!("#define FLIC_FRAME_MOST {FRAME_MOST}\n")));
-        assert!(header.contains(&format!("#define FLIC_LIST_MOST {LIST_MOST}\n")));
-    }
-
-    #[test]
-    fn only_slices_that_overlap_are_copied() {
-        let bytes = [1, 2, 3, 4, 5, 6];
-        assert!(matches!(apart(&bytes[..3], &[&bytes[3..]]), Cow::Borrowed([1, 2, 3])));
-        assert!(matches!(apart(&bytes[..4], &[&bytes[3..]]), Cow::Owned(copy) if copy == [1, 2, 3, 4]));
-        assert!(matches!(apart(&bytes, &[&[]]), Cow::Borrowed(_)));
-    }
 
     #[test]
     fn short_slices_and_bad_sizes_are_refused() {

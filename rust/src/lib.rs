@@ -29,9 +29,8 @@
 //! # Ok::<(), flic::Refused>(())
 //! ```
 
-#![deny(unsafe_code)]
+#![forbid(unsafe_code)]
 
-#[allow(unsafe_code)]
 mod boundary;
 mod checked;
 mod chunk;

@@ -46,7 +46,7 @@ impl Reel {
 
     /// How many frames were added.
     pub fn frames(&self) -> usize {
-        self.record.frames()
+        self.record.frames as usize
     }
 
     /// What shows after the last frame that was added: what the next frame is written from.
@@ -69,12 +69,12 @@ impl Reel {
         self.make_room();
         let (mut first, mut second) = (State::blank(self.size()), State::blank(self.size()));
         let closed = boundary::close_reel(self.record, &mut self.bytes, first.lent_mut(), second.lent_mut())?;
-        self.bytes.truncate(closed.end());
+        self.bytes.truncate(closed.end as usize);
         Ok(self.bytes)
     }
 
     fn make_room(&mut self) {
-        self.bytes.resize(self.record.end() + FRAME_MOST, 0);
+        self.bytes.resize(self.record.end as usize + FRAME_MOST, 0);
     }
 }
 

@@ -1,8 +1,7 @@
-//! Hands the codec's library to the compiler, which puts it into the crate.
+//! Hands the codec's library to the compiler, which puts it into this crate.
 
 use std::env;
 use std::path::PathBuf;
-use std::process::exit;
 
 const LIBRARY: &str = "libcapi.a";
 
@@ -11,7 +10,7 @@ fn library_directory() -> PathBuf {
         Some(directory) => PathBuf::from(directory),
         None => {
             let package = env::var_os("CARGO_MANIFEST_DIR").expect("cargo sets CARGO_MANIFEST_DIR");
-            PathBuf::from(package).join("../target/staticlib")
+            PathBuf::from(package).join("../../target/staticlib")
         }
     }
 }
@@ -27,7 +26,7 @@ fn main() {
             "{} is missing: run rt staticlib capi first, or set FLIC_LIB_DIR to the directory that holds {LIBRARY}",
             library.display()
         );
-        exit(1);
+        std::process::exit(1);
     }
     println!("cargo:rustc-link-search=native={}", directory.display());
     println!("cargo:rustc-link-lib=static=capi");

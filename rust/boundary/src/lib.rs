@@ -1,0 +1,354 @@
+//! The C boundary of the codec, as include/flic.h has it: its types, its functions, and all the unsafe code that calls
+//! them, which hands over whole slices.
+
+use std::borrow::Cow;
+
+/// No frame that is written has more bytes.
+pub const FRAME_MOST: usize = 65_310;
+/// No listing has more bytes.
+pub const LIST_MOST: usize = 218_047;
+
+/// Done where the number is 0, else refused, with the place of what is at fault.
+#[repr(C)]
+#[derive(Clone, Copy, Debug, Default, PartialEq, Eq)]
+pub struct Answer {
+    pub number: u32,
+    pub place: u64,
+}
+
+/// An answer, and how many bytes were written.
+#[repr(C)]
+#[derive(Clone, Copy, Debug, Default, PartialEq, Eq)]
+pub struct Written {
+    pub number: u32,
+    pub place: u64,
+    pub length: u64,
+}
+
+/// The record of a reel that is being built, as it goes from call to call.
+#[repr(C)]
+#[derive(Clone, Copy, Debug, Default, PartialEq, Eq)]
+pub struct Reel {
+    pub width: u64,
+    pub height: u64,
+    pub frames: u64,
+    pub end: u64,
+    pub closed: u32,
+}
+
+/// An answer, and the record that goes with it.
+#[repr(C)]
+#[derive(Clone, Copy, Debug, Default, PartialEq, Eq)]
+pub struct ReelAnswer {
+    pub number: u32,
+    pub place: u64,
+    pub reel: Reel,
+}
+
+/// An answer, and what a file header says.
+#[repr(C)]
+#[derive(Clone, Copy, Debug, Default, PartialEq, Eq)]
+pub struct Header {
+    pub number: u32,
+    pub place: u64,
+    pub width: u64,
+    pub height: u64,
+    pub frames: u64,
+    pub size: u64,
+    pub speed: u32,
+}
+
+/// An answer, and where a frame stands.
+#[repr(C)]
+#[derive(Clone, Copy, Debug, Default, PartialEq, Eq)]
+pub struct Span {
+    pub number: u32,
+    pub place: u64,
+    pub from: u64,
+    pub end: u64,
+}
+
+/// A lent picture and palette that are only looked at.
+#[derive(Clone, Copy)]
+pub struct Pair<'a> {
+    pub picture: &'a [u8],
+    pub palette: &'a [u8],
+}
+
+/// A lent picture and palette that are changed.
+pub struct PairMut<'a> {
+    pub picture: &'a mut [u8],
+    pub palette: &'a mut [u8],
+}
+
+extern "C" {
+    fn flic_read_frame(
+        bytes: *const u8,
+        bytes_len: usize,
+        width: u64,
+        height: u64,
+        picture: *mut u8,
+        picture_len: usize,
+        palette: *mut u8,
+        palette_len: usize,
+    ) -> Answer;
+
+    fn flic_write_frame(
+        width: u64,
+        height: u64,
+        previous_picture: *const u8,
+        previous_picture_len: usize,
+        previous_palette: *const u8,
+        previous_palette_len: usize,
+        next_picture: *const u8,
+        next_picture_len: usize,
+        next_palette: *const u8,
+        next_palette_len: usize,
+        out: *mut u8,
+        out_len: usize,
+    ) -> Written;
+
+    fn flic_rewrite_frame(
+        bytes: *const u8,
+        bytes_len: usize,
+        width: u64,
+        height: u64,
+        previous_picture: *const u8,
+        previous_picture_len: usize,
+        previous_palette: *const u8,
+        previous_palette_len: usize,
+        work_picture: *mut u8,
+        work_picture_len: usize,
+        work_palette: *mut u8,
+        work_palette_len: usize,
+        out: *mut u8,
+        out_len: usize,
+    ) -> Written;
+
+    fn flic_check_reel(
+        bytes: *const u8,
+        bytes_len: usize,
+        first_picture: *mut u8,
+        first_picture_len: usize,
+        first_palette: *mut u8,
+        first_palette_len: usize,
+        second_picture: *mut u8,
+        second_picture_len: usize,
+        second_palette: *mut u8,
+        second_palette_len: usize,
+    ) -> Answer;
+
+    fn flic_open_reel(width: u64, height: u64, speed: u32, bytes: *mut u8, bytes_len: usize) -> ReelAnswer;
+
+    fn flic_add_frame(
+        reel: Reel,
+        bytes: *mut u8,
+        bytes_len: usize,
+        shown_picture: *const u8,
+        shown_picture_len: usize,
+        shown_palette: *const u8,
+        shown_palette_len: usize,
+        next_picture: *const u8,
+        next_picture_len: usize,
+        next_palette: *const u8,
+        next_palette_len: usize,
+    ) -> ReelAnswer;
+
+    fn flic_close_reel(
+        reel: Reel,
+        bytes: *mut u8,
+        bytes_len: usize,
+        first_picture: *mut u8,
+        first_picture_len: usize,
+        first_palette: *mut u8,
+        first_palette_len: usize,
+        second_picture: *mut u8,
+        second_picture_len: usize,
+        second_palette: *mut u8,
+        second_palette_len: usize,
+    ) -> ReelAnswer;
+
+    fn flic_check_trailer(bytes: *const u8, bytes_len: usize) -> Answer;
+
+    fn flic_write_trailer(bytes: *mut u8, bytes_len: usize) -> Written;
+
+    fn flic_list(bytes: *const u8, bytes_len: usize, out: *mut u8, out_len: usize) -> Written;
+
+    fn flic_read_header(bytes: *const u8, bytes_len: usize) -> Header;
+
+    fn flic_next_frame(bytes: *const u8, bytes_len: usize, at: u64) -> Span;
+}
+
+/// The slice itself, or a copy where it overlaps one of the others: no two lent slices of a call may.
+fn apart<'a>(slice: &'a [u8], others: &[&[u8]]) -> Cow<'a, [u8]> {
+    let range = slice.as_ptr_range();
+    let overlaps = |other: &&[u8]| {
+        let other = other.as_ptr_range();
+        range.start < other.end && other.start < range.end
+    };
+    match others.iter().any(overlaps) {
+        true => Cow::Owned(slice.to_vec()),
+        false => Cow::Borrowed(slice),
+    }
+}
+
+// SAFETY, for every call below: each pointer goes with its own slice's length and isn't null; a slice that is lent to
+// be changed is lent alone, and slices that are only looked at are kept apart by `apart` where a caller could make
+// them overlap.
+
+pub fn read_frame(bytes: &[u8], width: u64, height: u64, shown: PairMut) -> Answer {
+    unsafe {
+        flic_read_frame(
+            bytes.as_ptr(),
+            bytes.len(),
+            width,
+            height,
+            shown.picture.as_mut_ptr(),
+            shown.picture.len(),
+            shown.palette.as_mut_ptr(),
+            shown.palette.len(),
+        )
+    }
+}
+
+pub fn write_frame(width: u64, height: u64, previous: Pair, next: Pair, out: &mut [u8]) -> Written {
+    let picture = apart(next.picture, &[previous.picture]);
+    let palette = apart(next.palette, &[previous.palette]);
+    unsafe {
+        flic_write_frame(
+            width,
+            height,
+            previous.picture.as_ptr(),
+            previous.picture.len(),
+            previous.palette.as_ptr(),
+            previous.palette.len(),
+            picture.as_ptr(),
+            picture.len(),
+            palette.as_ptr(),
+            palette.len(),
+            out.as_mut_ptr(),
+            out.len(),
+        )
+    }
+}
+
+pub fn rewrite_frame(bytes: &[u8], width: u64, height: u64, previous: Pair, work: PairMut, out: &mut [u8]) -> Written {
+    let bytes = apart(bytes, &[previous.picture, previous.palette]);
+    unsafe {
+        flic_rewrite_frame(
+            bytes.as_ptr(),
+            bytes.len(),
+            width,
+            height,
+            previous.picture.as_ptr(),
+            previous.picture.len(),
+            previous.palette.as_ptr(),
+            previous.palette.len(),
+            work.picture.as_mut_ptr(),
+            work.picture.len(),
+            work.palette.as_mut_ptr(),
+            work.palette.len(),
+            out.as_mut_ptr(),
+            out.len(),
+        )
+    }
+}
+
+pub fn check_reel(bytes: &[u8], first: PairMut, second: PairMut) -> Answer {
+    unsafe {
+        flic_check_reel(
+            bytes.as_ptr(),
+            bytes.len(),
+            first.picture.as_mut_ptr(),
+            first.picture.len(),
+            first.palette.as_mut_ptr(),
+            first.palette.len(),
+            second.picture.as_mut_ptr(),
+            second.picture.len(),
+            second.palette.as_mut_ptr(),
+            second.palette.len(),
+        )
+    }
+}
+
+pub fn open_reel(width: u64, height: u64, speed: u32, bytes: &mut [u8]) -> ReelAnswer {
+    unsafe { flic_open_reel(width, height, speed, bytes.as_mut_ptr(), bytes.len()) }
+}
+
+pub fn add_frame(reel: Reel, bytes: &mut [u8], shown: Pair, next: Pair) -> ReelAnswer {
+    let picture = apart(next.picture, &[shown.picture]);
+    let palette = apart(next.palette, &[shown.palette]);
+    unsafe {
+        flic_add_frame(
+            reel,
+            bytes.as_mut_ptr(),
+            bytes.len(),
+            shown.picture.as_ptr(),
+            shown.picture.len(),
+            shown.palette.as_ptr(),
+            shown.palette.len(),
+            picture.as_ptr(),
+            picture.len(),
+            palette.as_ptr(),
+            palette.len(),
+        )
+    }
+}
+
+pub fn close_reel(reel: Reel, bytes: &mut [u8], first: PairMut, second: PairMut) -> ReelAnswer {
+    unsafe {
+        flic_close_reel(
+            reel,
+            bytes.as_mut_ptr(),
+            bytes.len(),
+            first.picture.as_mut_ptr(),
+            first.picture.len(),
+            first.palette.as_mut_ptr(),
+            first.palette.len(),
+            second.picture.as_mut_ptr(),
+            second.picture.len(),
+            second.palette.as_mut_ptr(),
+            second.palette.len(),
+        )
+    }
+}
+
+pub fn check_trailer(bytes: &[u8]) -> Answer {
+    unsafe { flic_check_trailer(bytes.as_ptr(), bytes.len()) }
+}
+
+pub fn write_trailer(bytes: &mut [u8]) -> Written {
+    unsafe { flic_write_trailer(bytes.as_mut_ptr(), bytes.len()) }
+}
+
+pub fn list(bytes: &[u8], out: &mut [u8]) -> Written {
+    unsafe { flic_list(bytes.as_ptr(), bytes.len(), out.as_mut_ptr(), out.len()) }
+}
+
+pub fn read_header(bytes: &[u8]) -> Header {
+    unsafe { flic_read_header(bytes.as_ptr(), bytes.len()) }
+}
+
+pub fn next_frame(bytes: &[u8], at: u64) -> Span {
+    unsafe { flic_next_frame(bytes.as_ptr(), bytes.len(), at) }
+}
+
+#[cfg(test)]
+mod tests {
+    use super::*;
+
+    #[test]
+    fn the_most_bytes_are_those_of_the_header_for_c() {
+        let header = include_str!("../../../include/flic.h");
+        assert!(header.contains(&format!("#define FLIC_FRAME_MOST {FRAME_MOST}\n")));
+        assert!(header.contains(&format!("#define FLIC_LIST_MOST {LIST_MOST}\n")));
+    }
+
+    #[test]
+    fn only_slices_that_overlap_are_copied() {
+        let bytes = [1, 2, 3, 4, 5, 6];
+        assert!(matches!(apart(&bytes[..3], &[&bytes[3..]]), Cow::Borrowed([1, 2, 3])));
+        assert!(matches!(apart(&bytes[..4], &[&bytes[3..]]), Cow::Owned(copy) if copy == [1, 2, 3, 4]));
+        assert!(matches!(apart(&bytes, &[&[]]), Cow::Borrowed(_)));
+    }
+}
