@@ -2,38 +2,12 @@
 
 use crate::damage;
 use crate::frames::{Frame, Maker};
-use crate::model::rng::{mix, Rng};
 use crate::model::PALETTE_BYTES;
+use crate::rng::Rng;
+use crate::runner::calls::ReadCase;
+use crate::runner::inputs::Family;
 use crate::sizes::{lengths, long_lengths, right_size, short_lengths, small_size, wrong_size, Lengths};
 use crate::states::State;
-
-/// What one call of a frame's reader is handed.
-#[derive(Clone, PartialEq, Eq)]
-pub struct ReadCase {
-    pub bytes: Vec<u8>,
-    pub width: u64,
-    pub height: u64,
-    pub shown: State,
-}
-
-/// A way to make inputs: one seed gives one batch of one or many.
-pub struct Family<C: 'static> {
-    pub name: &'static str,
-    pub batches: u64,
-    pub emit: fn(&mut Rng, &mut dyn FnMut(C)),
-}
-
-impl<C> Family<C> {
-    pub fn batch(&self, seed: u64, sink: &mut dyn FnMut(C)) {
-        (self.emit)(&mut Rng::new(seed), sink);
-    }
-
-    /// The seed of a batch in a run that starts from `base`.
-    pub fn seed_of(&self, base: u64, batch: u64) -> u64 {
-        let name = self.name.bytes().fold(0, |sum, letter| mix(sum, u64::from(letter)));
-        mix(mix(base, name), batch)
-    }
-}
 
 /// The families of one input a batch, then those of many.
 pub const FAMILIES: [Family<ReadCase>; 11] = [
@@ -182,22 +156,10 @@ fn every_change(rng: &mut Rng, sink: &mut dyn FnMut(ReadCase), every_value: bool
     }
 }
 
-/// A family must give inputs, and the same ones again from the same seed.
-#[cfg(test)]
-pub fn same_again<C: PartialEq>(family: &Family<C>) {
-    let collected = |seed| {
-        let mut all = Vec::new();
-        family.batch(seed, &mut |case| all.push(case));
-        all
-    };
-    let seed = family.seed_of(1, 2);
-    assert!(collected(seed) == collected(seed), "family {}", family.name);
-    assert!(!collected(seed).is_empty(), "family {}", family.name);
-}
-
 #[cfg(test)]
 mod tests {
     use super::*;
+    use crate::runner::inputs::same_again;
 
     #[test]
     fn a_seed_gives_its_batch_again() {

@@ -1,8 +1,8 @@
 //! Damages frames: headers, single bytes, lengths, and bodies of nothing but chance.
 
 use crate::frames::{Chunk, Frame, KINDS, UNKNOWN};
-use crate::model::rng::Rng;
 use crate::model::{FRAME_HEADER, FRAME_TYPE, PREFIX_TYPE};
+use crate::rng::Rng;
 
 const COUNT_OFFSET: usize = 6;
 const TYPE_OFFSET: usize = 4;

@@ -1,7 +1,7 @@
 //! Builds frames: valid sub-chunks of every kind with all their freedoms, or with a slip past a limit.
 
-use crate::model::rng::Rng;
 use crate::model::{kind, CHUNK_HEADER, FRAME_HEADER, FRAME_TYPE, PREFIX_TYPE};
+use crate::rng::Rng;
 
 /// The kinds that a frame may hold, an unknown one (0) among them.
 pub const KINDS: [u16; 9] =

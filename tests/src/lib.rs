@@ -1,18 +1,16 @@
-//! The independent test side of the codec: a second reading of the papers, and what the differential tests share.
+//! The independent test side of the codec: a second reading of the papers, seeded inputs, and the runner that compares.
 
-pub mod behind;
-pub mod boundary;
-pub mod c_functions;
 pub mod cases;
-pub mod command;
-pub mod compare;
 pub mod damage;
 pub mod frames;
+pub mod huge;
 pub mod model;
+pub mod programs;
 pub mod reels;
+pub mod rng;
+pub mod runner;
 pub mod sizes;
 pub mod states;
-pub mod tally;
 pub mod trailers;
 pub mod write_cases;
-pub mod wrongs;
+pub mod wrong;

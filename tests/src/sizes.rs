@@ -1,7 +1,7 @@
 //! Sizes of pictures and lengths of lent slices, right ones and wrong ones.
 
-use crate::model::rng::Rng;
 use crate::model::PALETTE_BYTES;
+use crate::rng::Rng;
 
 /// A size that is within range: mostly small, odd and even widths, single rows and columns, and the largest.
 pub fn right_size(rng: &mut Rng) -> (usize, usize) {

@@ -1,9 +1,9 @@
 //! Pictures and palettes, and what may come after them: the inputs of the writing tests.
 
-use crate::model::encode::{Shown, Work};
-use crate::model::rng::Rng;
 use crate::model::PALETTE_BYTES;
+use crate::rng::Rng;
 use crate::sizes::Lengths;
+use flic_boundary::{Pair, PairMut};
 
 /// A picture and its palette, as long as they are lent.
 #[derive(Clone, Debug, PartialEq, Eq)]
@@ -17,12 +17,12 @@ impl State {
         State { picture: vec![0; pixels], palette: vec![0; PALETTE_BYTES] }
     }
 
-    pub fn shown(&self) -> Shown<'_> {
-        Shown { picture: &self.picture, palette: &self.palette }
+    pub fn shown(&self) -> Pair<'_> {
+        Pair { picture: &self.picture, palette: &self.palette }
     }
 
-    pub fn work(&mut self) -> Work<'_> {
-        Work { picture: &mut self.picture, palette: &mut self.palette }
+    pub fn work(&mut self) -> PairMut<'_> {
+        PairMut { picture: &mut self.picture, palette: &mut self.palette }
     }
 }
 

@@ -1,36 +1,15 @@
 //! The seeded inputs of the writing and rewriting tests, in families; a family and a seed give the same inputs again.
 
-use crate::cases::{Family, ReadCase, FAMILIES, SINGLE};
+use crate::cases::{FAMILIES, SINGLE};
 use crate::frames::Maker;
-use crate::model::decode::read_frame;
-use crate::model::encode::write_frame;
-use crate::model::rng::Rng;
-use crate::model::PALETTE_BYTES;
+use crate::model::{MODEL, PALETTE_BYTES};
+use crate::rng::Rng;
+use crate::runner::calls::{ReadCase, RewriteCase, WriteCase};
+use crate::runner::inputs::Family;
 use crate::sizes::{
     exact, lengths, long_lengths, long_or_exact, right_size, short_lengths, small_size, wrong_or_right, Lengths,
 };
 use crate::states::{any_state, lend, next_palette, next_state, palette, picture, state, State};
-
-/// What one call of the writer is handed.
-#[derive(Clone)]
-pub struct WriteCase {
-    pub width: u64,
-    pub height: u64,
-    pub previous: State,
-    pub next: State,
-    pub out: Vec<u8>,
-}
-
-/// What one call of the rewriter is handed.
-#[derive(Clone)]
-pub struct RewriteCase {
-    pub bytes: Vec<u8>,
-    pub width: u64,
-    pub height: u64,
-    pub previous: State,
-    pub work: State,
-    pub out: Vec<u8>,
-}
 
 pub const WRITE_FAMILIES: [Family<WriteCase>; 6] = [
     Family { name: "write-small", batches: 60_000, emit: write_small },
@@ -65,7 +44,8 @@ pub fn ample_room(pixels: usize) -> usize {
 /// The length of the house frame between two states, by the model.
 fn house_length(width: usize, height: usize, previous: &State, next: &State) -> usize {
     let mut out = vec![0; ample_room(width * height)];
-    write_frame(width as u64, height as u64, previous.shown(), next.shown(), &mut out)
+    MODEL
+        .write_frame(width as u64, height as u64, previous.shown(), next.shown(), &mut out)
         .expect("ample room holds any house frame: raise COLOUR_CHUNK_MOST if it doesn't")
 }
 
@@ -153,13 +133,13 @@ fn write_rooms(rng: &mut Rng, sink: &mut dyn FnMut(WriteCase)) {
 /// The batch of a reading family, as frames to be rewritten.
 fn frames_of(rng: &mut Rng, family: &Family<ReadCase>, sink: &mut dyn FnMut(&mut Rng, ReadCase)) {
     let seed = rng.draw();
-    family.batch(seed, &mut |case| sink(rng, case));
+    (family.emit)(&mut Rng::new(seed), &mut |case| sink(rng, case));
 }
 
 /// What a frame shows next, if it is accepted.
 fn next_of(case: &ReadCase) -> Option<State> {
     let mut next = case.shown.clone();
-    read_frame(&case.bytes, case.width, case.height, &mut next.picture, &mut next.palette).ok()?;
+    MODEL.read_frame(&case.bytes, case.width, case.height, next.work()).ok()?;
     Some(next)
 }
 

@@ -1,15 +1,14 @@
 //! Times three encoders on the reels, side by side: the fastest lap of many. Usage: flic-bench-writing REEL..
 
 mod clock;
-mod library;
 mod plain;
 mod search;
 
 use std::path::Path;
 
-use flic_tests::command::fail;
-use flic_tests::model::encode::{write_frame, Shown};
-use flic_tests::model::PALETTE_BYTES;
+use flic_boundary::Pair;
+use flic_tests::model::{MODEL as INDEPENDENT, PALETTE_BYTES};
+use flic_tests::runner::command::fail;
 
 use crate::clock::seconds;
 
@@ -40,10 +39,10 @@ impl Reel {
         self.states.len() / (self.width * self.height + PALETTE_BYTES)
     }
 
-    fn shown(&self, i: usize) -> Shown<'_> {
+    fn shown(&self, i: usize) -> Pair<'_> {
         let pixels = self.width * self.height;
         let state = &self.states[i % self.frames() * (pixels + PALETTE_BYTES)..][..pixels + PALETTE_BYTES];
-        Shown { picture: &state[..pixels], palette: &state[pixels..] }
+        Pair { picture: &state[..pixels], palette: &state[pixels..] }
     }
 }
 
@@ -66,8 +65,13 @@ impl Encoders {
             return &self.grown;
         }
         let length = match encoder {
-            OURS => library::write_frame(width, height, previous, next, &mut self.lent),
-            _ => write_frame(width as u64, height as u64, previous, next, &mut self.lent)
+            OURS => {
+                let written = flic_boundary::write_frame(width as u64, height as u64, previous, next, &mut self.lent);
+                assert_eq!(written.number, 0, "flic_write_frame refuses a frame of the benchmark");
+                written.length as usize
+            }
+            _ => INDEPENDENT
+                .write_frame(width as u64, height as u64, previous, next, &mut self.lent)
                 .unwrap_or_else(|_| fail("the independent encoder refuses a frame", "run ./test")),
         };
         &self.lent[..length]

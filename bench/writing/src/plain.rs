@@ -1,6 +1,6 @@
 //! A plain encoder of the house form with the library's search: each body is written once, into a buffer that grows.
 
-use flic_tests::model::encode::Shown;
+use flic_boundary::Pair;
 use flic_tests::model::{kind, CHUNK_HEADER, FRAME_HEADER, FRAME_TYPE};
 
 use crate::search::Search;
@@ -21,7 +21,7 @@ impl Encoder {
     }
 
     /// Writes the house frame and gives its length.
-    pub fn write_frame(&mut self, width: usize, previous: Shown, next: Shown, out: &mut Vec<u8>) -> usize {
+    pub fn write_frame(&mut self, width: usize, previous: Pair, next: Pair, out: &mut Vec<u8>) -> usize {
         out.clear();
         out.resize(FRAME_HEADER, 0);
         let colours = previous.palette != next.palette;

@@ -5,17 +5,17 @@ mod damaging;
 
 use damaging::case::Case;
 use damaging::command::{task, Run, Task, USAGE};
-use damaging::compare::{Comparer, Entry, ENTRIES};
+use damaging::compare::{calls, Found, LIBRARY};
 use damaging::kept::Kept;
 use damaging::life::life;
 use damaging::make::case;
 use damaging::met::Met;
 use damaging::self_check::{seen_wrongs, trespass, unended};
 use damaging::stored::{self, Collection};
-use damaging::subject::LIBRARY;
-use flic_tests::command::fail;
-use flic_tests::compare::{print_bytes, Difference};
-use flic_tests::model::rng::mix;
+use flic_tests::rng::mix;
+use flic_tests::runner::command::fail;
+use flic_tests::runner::compare::Difference;
+use flic_tests::runner::program::{print_bytes, print_difference as print_answers};
 use std::collections::BTreeSet;
 use std::io::IsTerminal;
 use std::path::{Path, PathBuf};
@@ -44,15 +44,15 @@ fn main() {
 }
 
 /// Puts a case through every entry point, and gives what was answered.
-fn each_entry(case: &Case, met: &mut Met) -> Result<BTreeSet<(Entry, u32)>, (Entry, Difference)> {
-    let comparer = Comparer::of(LIBRARY);
+fn each_entry(case: &Case, met: &mut Met) -> Result<BTreeSet<(&'static str, u32)>, Found> {
     let mut answers = BTreeSet::new();
-    for entry in ENTRIES {
-        let number = comparer.entry(entry, case).map_err(|difference| (entry, difference))?;
+    for (call, seed) in calls(case) {
+        let entry = call.row().function;
+        let number = LIBRARY.call(&*call, seed).map_err(|difference| (entry, difference))?.told.number;
         met.count(entry, number);
         answers.insert((entry, number));
     }
-    life(&comparer, case, &mut |entry, number| met.count(entry, number))?;
+    life(case, &mut |entry, number| met.count(entry, number))?;
     met.cases += 1;
     Ok(answers)
 }
@@ -126,16 +126,14 @@ fn print_case(case: &Case) {
     print_bytes("bytes", &case.bytes);
 }
 
-fn print_difference(case: &Case, entry: Entry, difference: &Difference) {
-    println!("damage: a difference in flic_{}", entry.name());
+fn print_difference(case: &Case, entry: &str, difference: &Difference) {
+    println!("damage: a difference in flic_{}", entry);
     print_case(case);
-    println!("  library: {}", difference.library);
-    println!("  model:   {}", difference.model);
-    println!("  differs: {}", difference.what);
+    print_answers(difference);
 }
 
 /// Stores a case in which library and model differ, and ends the run.
-fn found(case: &Case, entry: Entry, difference: &Difference) -> ! {
+fn found(case: &Case, entry: &str, difference: &Difference) -> ! {
     print_difference(case, entry, difference);
     match stored::store(case, &stored::found_name(case)) {
         Ok(path) => fail(&format!("  stored as {path}"), &replaying(&path)),
@@ -165,15 +163,15 @@ fn replay(file: &Path) {
 }
 
 /// The calls of a case, each named before it is made.
-fn each_entry_aloud(case: &Case) -> Result<(), (Entry, Difference)> {
-    let comparer = Comparer::of(LIBRARY);
-    for entry in ENTRIES {
-        println!("  flic_{} ..", entry.name());
-        let number = comparer.entry(entry, case).map_err(|difference| (entry, difference))?;
+fn each_entry_aloud(case: &Case) -> Result<(), Found> {
+    for (call, seed) in calls(case) {
+        let entry = call.row().function;
+        println!("  flic_{entry} ..");
+        let number = LIBRARY.call(&*call, seed).map_err(|difference| (entry, difference))?.told.number;
         println!("    library and model both answer {number}");
     }
     println!("  a whole reel from its states ..");
-    life(&comparer, case, &mut |_, _| {})
+    life(case, &mut |_, _| {})
 }
 
 fn stored_cases() {

@@ -1,9 +1,9 @@
 //! One case of the damage run: what all twelve entry points are handed, and the file in which it is kept.
 
 use super::spans::Spans;
-use flic_tests::model::file_header::FILE_HEADER;
-use flic_tests::model::reel::Reel;
-use flic_tests::model::rng::{mix, Rng};
+use flic_boundary::Reel;
+use flic_tests::model::FILE_HEADER;
+use flic_tests::rng::{mix, Rng};
 use flic_tests::states::State;
 use std::ops::Range;
 

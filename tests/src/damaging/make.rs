@@ -3,19 +3,18 @@
 use super::case::Case;
 use super::mutate::damaged;
 use super::numbers;
+use flic_boundary::Reel;
 use flic_tests::damage::kind_in_turn;
 use flic_tests::frames::{frame_of, Maker};
-use flic_tests::model::kind;
-use flic_tests::model::listing::text;
-use flic_tests::model::reel::Reel;
-use flic_tests::model::rng::{mix, Rng};
+use flic_tests::model::{kind, MODEL};
 use flic_tests::reels::built_reel::Built;
 use flic_tests::reels::chunks;
 use flic_tests::reels::loose_reel::{any_frame, Loose};
 use flic_tests::reels::make::{pixels_of, reel_size};
+use flic_tests::rng::{mix, Rng};
+use flic_tests::runner::inputs;
 use flic_tests::sizes::{right_size, small_size};
 use flic_tests::states::{any_state, lend, next_state, state, State};
-use flic_tests::trailers::cases::TrailerCase;
 use flic_tests::trailers::make::{checks_of, trailer_of};
 use flic_tests::trailers::nested;
 use flic_tests::write_cases::ample_room;
@@ -160,7 +159,7 @@ fn checked(rng: &mut Rng) -> Sound {
 fn nest(rng: &mut Rng) -> Sound {
     let mut bytes = Vec::new();
     nested::trees(rng, &mut |case| {
-        if let TrailerCase::List(case) = case {
+        if let inputs::Case::List(case) = case {
             bytes = case.bytes;
         }
     });
@@ -187,7 +186,7 @@ pub fn case(seed: u64) -> Case {
     let pixels = pixels_of(width, height).max(sound.width * sound.height);
     let (first, second) = pairs(rng, &sound, pixels);
     let frame = frame_range(rng, &sound, bytes.len());
-    let needed = text(&bytes).len();
+    let needed = MODEL.text(&bytes).len();
     let list_room = if rng.once_in(8) { rng.below(needed) } else { needed + rng.pick(&[0, 0, 1, 40]) };
     let ample = ample_room(pixels);
     let frame_room = match rng.below(8) {

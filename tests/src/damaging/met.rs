@@ -1,6 +1,6 @@
 //! What a damage run has met: how often each entry point was called, and what it answered.
 
-use super::compare::{Entry, ENTRIES};
+use flic_tests::runner::calls::ROWS;
 use std::collections::{BTreeMap, BTreeSet};
 
 /// The refusals of document 01's table.
@@ -9,11 +9,11 @@ const REFUSALS: std::ops::RangeInclusive<u32> = 1..=18;
 #[derive(Default)]
 pub struct Met {
     pub cases: u64,
-    numbers: BTreeMap<(Entry, u32), u64>,
+    numbers: BTreeMap<(&'static str, u32), u64>,
 }
 
 impl Met {
-    pub fn count(&mut self, entry: Entry, number: u32) {
+    pub fn count(&mut self, entry: &'static str, number: u32) {
         *self.numbers.entry((entry, number)).or_default() += 1;
     }
 
@@ -32,7 +32,7 @@ impl Met {
 
     /// One line for each entry point: its calls, those that were done, and the refusals with their numbers.
     pub fn print(&self) {
-        for entry in ENTRIES {
+        for entry in ROWS.map(|row| row.function) {
             let answers: Vec<(u32, u64)> =
                 self.numbers.iter().filter(|((of, _), _)| *of == entry).map(|((_, n), times)| (*n, *times)).collect();
             let calls: u64 = answers.iter().map(|(_, times)| times).sum();
@@ -42,7 +42,7 @@ impl Met {
                 .filter(|(number, _)| *number != 0)
                 .map(|(number, times)| format!("{number}: {times}"))
                 .collect();
-            println!("  {:13} {calls:9} calls, {done:9} done; refused {}", entry.name(), refused.join(", "));
+            println!("  {:13} {calls:9} calls, {done:9} done; refused {}", entry, refused.join(", "));
         }
     }
 

@@ -14,5 +14,3 @@ pub mod pages;
 pub mod self_check;
 pub mod spans;
 pub mod stored;
-pub mod subject;
-pub mod wrongs;

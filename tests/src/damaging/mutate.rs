@@ -2,7 +2,7 @@
 
 use super::spans::Spans;
 use flic_tests::damage::{set_size, set_word};
-use flic_tests::model::rng::Rng;
+use flic_tests::rng::Rng;
 
 /// Bytes, words and sizes at limits that the format has.
 const BYTES: [u8; 9] = [0, 1, 5, 6, 15, 16, 127, 128, 255];

@@ -1,7 +1,8 @@
 //! Damages what is handed in beside bytes: sizes, records, and the lengths of lent slices.
 
-use flic_tests::model::reel::{Reel, MAX_FRAMES};
-use flic_tests::model::rng::Rng;
+use flic_boundary::Reel;
+use flic_tests::model::MAX_FRAMES;
+use flic_tests::rng::Rng;
 use flic_tests::sizes::{lengths, right_size, wrong_size, Lengths};
 
 /// The size that a reel has, or now and then another.

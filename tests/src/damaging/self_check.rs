@@ -1,39 +1,68 @@
 //! Shows that the damage run can fail: everything wrong is seen, and a touched guard page ends the process.
 
-use super::guarded::{choose, lending, Side, Sides};
+use super::compare::calls;
+use super::guarded::GuardPages;
 use super::make::case;
-use super::subject::outside;
-use super::wrongs::{all, Wrong};
-use flic_tests::model::lent::Lent;
-use flic_tests::model::rng::mix;
+use flic_tests::rng::mix;
+use flic_tests::runner::compare::Comparer;
+use flic_tests::runner::lent::{Lender, Side};
+use flic_tests::runner::wrongs::{ignoring, models, Deed, Wrong};
+use flic_tests::wrong::{frames, tellers, trespassers, Trespass, READING, REELS, REWRITING, TRAILERS, WRITING};
 use std::os::unix::process::ExitStatusExt;
 use std::process::{Command, Stdio};
 
 /// How many cases it may take until everything wrong was seen.
 const CASES: u64 = 20_000;
 
+const BEFORE: Deed = Deed::WritesBeside(Side::Before);
+const AFTER: Deed = Deed::WritesBeside(Side::After);
+
+/// Writes beside slices of each kind, besides those that other tests try.
+const BESIDE: [Trespass; 8] = [
+    ("a byte after a guarded picture", "read_frame", "picture", AFTER),
+    ("a byte before a guarded picture", "read_frame", "picture", BEFORE),
+    ("a byte after a guarded listing", "list", "output", AFTER),
+    ("a byte before a guarded listing", "list", "output", BEFORE),
+    ("a byte after a guarded reel", "add_frame", "reel", AFTER),
+    ("a byte before a guarded reel", "add_frame", "reel", BEFORE),
+    ("a byte after a guarded reel in a step", "next_frame", "reel", AFTER),
+    ("a byte before a guarded reel in a step", "next_frame", "reel", BEFORE),
+];
+
+/// Something wrong, and the side of its slices on which the guard pages stand, if that matters: a write beside a slice
+/// is seen where no guard page ends it.
+type Guarded = (Wrong, Option<Side>);
+
+fn all() -> Vec<Guarded> {
+    let trespasses = [&READING[..], &WRITING, &REWRITING, &REELS, &TRAILERS, &BESIDE].concat();
+    let sides = trespasses.iter().map(|(_, _, _, deed)| match deed {
+        Deed::WritesBeside(Side::Before) => Some(Side::After),
+        Deed::WritesBeside(Side::After) => Some(Side::Before),
+        _ => None,
+    });
+    let mut all: Vec<Guarded> = trespassers(&trespasses).into_iter().zip(sides).collect();
+    let others = [tellers(), ignoring(), models(&frames(), &["read_frame"])];
+    all.extend(others.into_iter().flatten().map(|wrong| (wrong, None)));
+    all
+}
+
 /// Everything wrong, and after how many cases a run from this seed saw it.
 pub fn seen_wrongs(base: u64) -> Vec<Wrong> {
     let mut wrongs = all();
     for number in 0..CASES {
-        if wrongs.iter().all(|wrong| wrong.seen.is_some()) {
+        if wrongs.iter().all(|(wrong, _)| wrong.seen.is_some()) {
             break;
         }
-        let case = case(mix(base, number));
-        for wrong in wrongs.iter_mut().filter(|wrong| wrong.seen.is_none()) {
-            let differs = wrong.entries.iter().any(|entry| match wrong.side {
-                Some(side) => {
-                    choose(Sides::All(side));
-                    wrong.comparer.entry_as_chosen(*entry, &case).is_err()
-                }
-                None => wrong.comparer.entry(*entry, &case).is_err(),
-            });
-            if differs {
+        let calls = calls(&case(mix(base, number)));
+        for (wrong, side) in wrongs.iter_mut().filter(|(wrong, _)| wrong.seen.is_none()) {
+            let comparer = Comparer { subject: &*wrong.subject, lender: &GuardPages(*side) };
+            let mut calls = calls.iter().filter(|(call, _)| wrong.functions.contains(&call.row().function));
+            if calls.any(|(call, seed)| comparer.call(&**call, *seed).is_err()) {
                 wrong.seen = Some(number + 1);
             }
         }
     }
-    wrongs
+    wrongs.into_iter().map(|(wrong, _)| wrong).collect()
 }
 
 /// What a child of the self-check does to the byte outside a lent slice.
@@ -41,11 +70,9 @@ pub const TRESPASSES: [&str; 4] = ["read-after", "read-before", "write-after", "
 
 /// Touches the byte outside a lent slice, on the side of its guard page; only a fault of this test returns.
 pub fn trespass(word: &str) {
-    let after = word.ends_with("after");
-    choose(Sides::All(if after { Side::After } else { Side::Before }));
-    let mut lent = Lent::holding(&[1, 2, 3], 0);
-    lending([&mut lent], |[slice]| {
-        let byte = outside(slice, after);
+    let side = if word.ends_with("after") { Side::After } else { Side::Before };
+    GuardPages(Some(side)).lend(&[&[1, 2, 3]], 0, &mut |lent| {
+        let byte = lent.beside(0, side);
         // SAFETY: none; the system must end this process.
         unsafe {
             if word.starts_with("read") {

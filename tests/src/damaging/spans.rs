@@ -1,9 +1,9 @@
 //! Where the chunks of a reel or a frame stand, kept up to date while bytes are put in and taken out.
 
 use flic_tests::damage::set_size;
-use flic_tests::model::decode::{size_at, word_at};
-use flic_tests::model::file_header::{field, FILE_HEADER};
-use flic_tests::model::{kind, CHUNK_HEADER, FRAME_HEADER, FRAME_TYPE, PREFIX_TYPE};
+use flic_tests::model::{
+    field, kind, size_at, word_at, CHUNK_HEADER, FILE_HEADER, FRAME_HEADER, FRAME_TYPE, PREFIX_TYPE,
+};
 
 const MAGIC: u16 = 0xAF12;
 const MOST_LEVELS: usize = 12;

@@ -1,12 +1,13 @@
 //! The model's building of a reel: open, add, and close, which plays the reel's own bytes and writes the ring.
 
 use super::decode::{size_at, word_at};
-use super::encode::{house_frame, Shown, Work};
+use super::encode::house_frame;
 use super::file_header::{close, count_frames, field, opened, Closing, FILE_HEADER};
 use super::playing::{Playing, Screen};
-use super::reel::{Outcome, Reel, MAX_FRAMES};
+use super::reel::{Outcome, MAX_FRAMES};
 use super::reel_mistakes::Mistake;
 use super::{accepted_size, long_enough, number, Refusal, CHUNK_HEADER, FRAME_HEADER, FRAME_TYPE};
+use flic_boundary::{Pair, PairMut, Reel};
 
 const LARGEST_SIZE: u64 = u32::MAX as u64;
 
@@ -43,12 +44,12 @@ fn open(mistake: Mistake, reel: Reel, speed: u32, bytes: &mut [u8]) -> Result<Re
 }
 
 /// Writes the house frame from the state that shows to the next one, at the record's end.
-pub fn add_frame(reel: Reel, bytes: &mut [u8], shown: Shown, next: Shown) -> Outcome {
+pub fn add_frame(reel: Reel, bytes: &mut [u8], shown: Pair, next: Pair) -> Outcome {
     add_frame_with(Mistake::None, reel, bytes, shown, next)
 }
 
 /// `add_frame` with one mistake in it, or none.
-pub fn add_frame_with(mistake: Mistake, reel: Reel, bytes: &mut [u8], shown: Shown, next: Shown) -> Outcome {
+pub fn add_frame_with(mistake: Mistake, reel: Reel, bytes: &mut [u8], shown: Pair, next: Pair) -> Outcome {
     let outcome = Outcome::of(reel, add(mistake, reel, bytes, shown, next));
     if outcome.answer.is_err() && mistake == Mistake::EndMovedWhenRefused {
         return Outcome { reel: Reel { end: reel.end.wrapping_add(16), ..reel }, ..outcome };
@@ -56,7 +57,7 @@ pub fn add_frame_with(mistake: Mistake, reel: Reel, bytes: &mut [u8], shown: Sho
     outcome
 }
 
-fn add(mistake: Mistake, reel: Reel, bytes: &mut [u8], shown: Shown, next: Shown) -> Result<Reel, Refusal> {
+fn add(mistake: Mistake, reel: Reel, bytes: &mut [u8], shown: Pair, next: Pair) -> Result<Reel, Refusal> {
     let most = if mistake == Mistake::FramePast4000 { MAX_FRAMES + 1 } else { MAX_FRAMES };
     let may_add = !is_closed(mistake, reel) && reel.frames < most;
     let (pictures, palettes) = ([shown.picture, next.picture], [shown.palette, next.palette]);
@@ -133,12 +134,12 @@ fn append(mistake: Mistake, reel: Reel, bytes: &mut [u8], frame: &[u8]) -> Resul
 }
 
 /// Plays an open reel's frames, writes the ring from what shows last, and finishes the header.
-pub fn close_reel(reel: Reel, bytes: &mut [u8], first: Work, second: Work) -> Outcome {
+pub fn close_reel(reel: Reel, bytes: &mut [u8], first: PairMut, second: PairMut) -> Outcome {
     close_reel_with(Mistake::None, reel, bytes, first, second)
 }
 
 /// `close_reel` with one mistake in it, or none.
-pub fn close_reel_with(mistake: Mistake, reel: Reel, bytes: &mut [u8], first: Work, second: Work) -> Outcome {
+pub fn close_reel_with(mistake: Mistake, reel: Reel, bytes: &mut [u8], first: PairMut, second: PairMut) -> Outcome {
     let outcome = Outcome::of(reel, finish(mistake, reel, bytes, first, second));
     if outcome.answer.is_err() && mistake == Mistake::CloseMarksRefused {
         return Outcome { reel: Reel { closed: 1, ..reel }, ..outcome };
@@ -146,7 +147,13 @@ pub fn close_reel_with(mistake: Mistake, reel: Reel, bytes: &mut [u8], first: Wo
     outcome
 }
 
-fn finish(mistake: Mistake, reel: Reel, bytes: &mut [u8], mut first: Work, mut second: Work) -> Result<Reel, Refusal> {
+fn finish(
+    mistake: Mistake,
+    reel: Reel,
+    bytes: &mut [u8],
+    mut first: PairMut,
+    mut second: PairMut,
+) -> Result<Reel, Refusal> {
     let pictures = [&*first.picture, &*second.picture];
     let palettes = [&*first.palette, &*second.palette];
     let may_close = may_close(mistake, reel);
@@ -273,8 +280,8 @@ mod tests {
     const FILL: u8 = 0x77;
     const BLANK: [u8; PALETTE_BYTES] = [0; PALETTE_BYTES];
 
-    fn shown(picture: &[u8]) -> Shown<'_> {
-        Shown { picture, palette: &BLANK }
+    fn shown(picture: &[u8]) -> Pair<'_> {
+        Pair { picture, palette: &BLANK }
     }
 
     struct Closed {
@@ -289,8 +296,8 @@ mod tests {
         let (mut first, mut second) = (vec![FILL; pixels], vec![FILL; pixels]);
         let (mut first_palette, mut second_palette) = ([FILL; PALETTE_BYTES], [FILL; PALETTE_BYTES]);
         let pairs = (
-            Work { picture: &mut first, palette: &mut first_palette },
-            Work { picture: &mut second, palette: &mut second_palette },
+            PairMut { picture: &mut first, palette: &mut first_palette },
+            PairMut { picture: &mut second, palette: &mut second_palette },
         );
         let outcome = close_reel(reel, bytes, pairs.0, pairs.1);
         Closed { outcome, first, second }
@@ -323,7 +330,7 @@ mod tests {
         assert_eq!(bytes[..], [&wanted[..], &[FILL]].concat());
         let mut pairs = [[FILL; PALETTE_BYTES]; 4];
         let [a, b, c, d] = &mut pairs;
-        let pair = |picture, palette| Work { picture, palette };
+        let pair = |picture, palette| PairMut { picture, palette };
         assert_eq!(check_reel(&bytes, pair(a, b), pair(c, d)), Ok(()));
     }
 

@@ -1,19 +1,19 @@
 //! The model's check of a whole reel: its header, its top-level chunks, its frames, and its ring.
 
-use super::encode::Work;
 use super::file_header::accepted;
 use super::playing::{Playing, Screen};
 use super::reel_mistakes::Mistake;
 use super::top_level::{Span, TopLevel};
 use super::{number, Refusal};
+use flic_boundary::PairMut;
 
 /// Checks a closed reel; from the header's acceptance on, the pairs hold the last state and frame 1's.
-pub fn check_reel(bytes: &[u8], first: Work, second: Work) -> Result<(), Refusal> {
+pub fn check_reel(bytes: &[u8], first: PairMut, second: PairMut) -> Result<(), Refusal> {
     check_reel_with(Mistake::None, bytes, first, second)
 }
 
 /// `check_reel` with one mistake in it, or none.
-pub fn check_reel_with(mistake: Mistake, bytes: &[u8], mut first: Work, mut second: Work) -> Result<(), Refusal> {
+pub fn check_reel_with(mistake: Mistake, bytes: &[u8], mut first: PairMut, mut second: PairMut) -> Result<(), Refusal> {
     if mistake == Mistake::BlankedBeforeChecks {
         first.picture.fill(0);
         second.palette.fill(0);
@@ -138,8 +138,8 @@ mod tests {
         let mut palettes = [[FILL; PALETTE_BYTES + 1]; 2];
         let [first, second] = &mut pictures;
         let [first_palette, second_palette] = &mut palettes;
-        let first = Work { picture: first, palette: first_palette };
-        let second = Work { picture: second, palette: second_palette };
+        let first = PairMut { picture: first, palette: first_palette };
+        let second = PairMut { picture: second, palette: second_palette };
         let answer = check_reel(bytes, first, second).map_err(|refusal| (refusal.number, refusal.place));
         let told = |i: usize| {
             let ([a, b, excess], palette) = (pictures[i], palettes[i]);

@@ -122,17 +122,6 @@ pub fn read_frame_with(
     outcome
 }
 
-/// The kinds of the sub-chunks of a frame that was accepted, in file order.
-pub fn kinds_of_accepted(bytes: &[u8]) -> Vec<u16> {
-    let mut kinds = Vec::new();
-    let mut place = FRAME_HEADER;
-    for _ in 0..word_at(bytes, 6) {
-        kinds.push(word_at(bytes, place + 4));
-        place += size_at(bytes, place);
-    }
-    kinds
-}
-
 /// The little-endian word at an offset that must be there.
 pub fn word_at(bytes: &[u8], offset: usize) -> u16 {
     u16::from_le_bytes([bytes[offset], bytes[offset + 1]])

@@ -2,6 +2,7 @@
 
 use super::decode::read_frame;
 use super::{accepted_size, kind, long_enough, number, Refusal, CHUNK_HEADER, FRAME_HEADER, FRAME_TYPE, PALETTE_BYTES};
+use flic_boundary::{Pair, PairMut};
 
 const MOST_REPEATED: usize = 127;
 const MOST_COPIED: usize = 128;
@@ -65,26 +66,13 @@ pub const WRITE_MISTAKES: [Mistake; 20] = [
 pub const REWRITE_MISTAKES: [Mistake; 3] =
     [Mistake::StaleWorkWhenShort, Mistake::WorkSetWhenRefused, Mistake::ShortOutputBeforeFrame];
 
-/// A picture and its palette, as slices that may be longer than needed.
-#[derive(Clone, Copy)]
-pub struct Shown<'a> {
-    pub picture: &'a [u8],
-    pub palette: &'a [u8],
-}
-
-/// A lent picture and palette that a call may change.
-pub struct Work<'a> {
-    pub picture: &'a mut [u8],
-    pub palette: &'a mut [u8],
-}
-
 /// The house frame that leads from `previous` to `next`, of which no slice is too short.
-pub fn house_frame(width: usize, height: usize, previous: Shown, next: Shown) -> Vec<u8> {
+pub fn house_frame(width: usize, height: usize, previous: Pair, next: Pair) -> Vec<u8> {
     House { mistake: Mistake::None, width, height }.frame(previous, next)
 }
 
 /// Writes the house frame that leads from `previous` to `next`, and gives its length.
-pub fn write_frame(width: u64, height: u64, previous: Shown, next: Shown, out: &mut [u8]) -> Result<usize, Refusal> {
+pub fn write_frame(width: u64, height: u64, previous: Pair, next: Pair, out: &mut [u8]) -> Result<usize, Refusal> {
     write_frame_with(Mistake::None, width, height, previous, next, out)
 }
 
@@ -93,8 +81,8 @@ pub fn write_frame_with(
     mistake: Mistake,
     width: u64,
     height: u64,
-    previous: Shown,
-    next: Shown,
+    previous: Pair,
+    next: Pair,
     out: &mut [u8],
 ) -> Result<usize, Refusal> {
     let pictures = [previous.picture, next.picture];
@@ -109,8 +97,8 @@ pub fn rewrite_frame(
     bytes: &[u8],
     width: u64,
     height: u64,
-    previous: Shown,
-    work: Work,
+    previous: Pair,
+    work: PairMut,
     out: &mut [u8],
 ) -> Result<usize, Refusal> {
     rewrite_frame_with(Mistake::None, bytes, width, height, previous, work, out)
@@ -122,8 +110,8 @@ pub fn rewrite_frame_with(
     bytes: &[u8],
     width: u64,
     height: u64,
-    previous: Shown,
-    work: Work,
+    previous: Pair,
+    work: PairMut,
     out: &mut [u8],
 ) -> Result<usize, Refusal> {
     let pictures = [previous.picture, &*work.picture];
@@ -136,7 +124,7 @@ pub fn rewrite_frame_with(
     let mut picture = previous.picture[..pixels].to_vec();
     let mut palette = previous.palette[..PALETTE_BYTES].to_vec();
     let reading = read_frame(bytes, width, height, &mut picture, &mut palette);
-    let next = Shown { picture: &picture, palette: &palette };
+    let next = Pair { picture: &picture, palette: &palette };
     let written = match reading {
         Err(refusal) => Err(refusal),
         Ok(()) => store(mistake, &House { mistake, width: columns, height: rows }.frame(previous, next), out),
@@ -229,7 +217,7 @@ struct House {
 }
 
 impl House {
-    fn frame(&self, previous: Shown, next: Shown) -> Vec<u8> {
+    fn frame(&self, previous: Pair, next: Pair) -> Vec<u8> {
         let pixels = self.width * self.height;
         let colour = self.colour_chunk(&previous.palette[..PALETTE_BYTES], &next.palette[..PALETTE_BYTES]);
         let picture = self.picture_chunk(&previous.picture[..pixels], &next.picture[..pixels]);
@@ -555,8 +543,8 @@ mod tests {
 
     fn written_with(width: usize, previous: &[u8], old: &[u8], next: &[u8], new: &[u8]) -> Vec<u8> {
         let mut out = vec![0xEE; 70_000];
-        let from = Shown { picture: previous, palette: old };
-        let to = Shown { picture: next, palette: new };
+        let from = Pair { picture: previous, palette: old };
+        let to = Pair { picture: next, palette: new };
         let height = previous.len() / width;
         let length = write_frame(width as u64, height as u64, from, to, &mut out).expect("the room is large");
         assert!(out[length..].iter().all(|byte| *byte == 0xEE));
@@ -679,7 +667,7 @@ mod tests {
 
     #[test]
     fn writing_refuses_in_order() {
-        let shown = |picture, palette| Shown { picture, palette };
+        let shown = |picture, palette| Pair { picture, palette };
         let numbered = |answer: Result<usize, Refusal>| answer.map_err(|refusal| (refusal.number, refusal.place));
         let right = shown(&[0; 1], &GREY);
         assert_eq!(numbered(write_frame(0, 1, shown(&[], &[]), right, &mut [])), Err((2, 0)));
@@ -694,8 +682,8 @@ mod tests {
         let frame = [24, 0, 0, 0, 0xFA, 0xF1, 1, 0, 1, 2, 3, 4, 5, 6, 7, 8, 8, 0, 0, 0, 16, 0, 3, 99];
         let rewritten = |bytes: &[u8], room: usize| {
             let (mut picture, mut palette, mut out) = ([8; 2], [8; 769], vec![0; room]);
-            let work = Work { picture: &mut picture, palette: &mut palette };
-            let answer = rewrite_frame(bytes, 1, 1, Shown { picture: &[0], palette: &GREY }, work, &mut out);
+            let work = PairMut { picture: &mut picture, palette: &mut palette };
+            let answer = rewrite_frame(bytes, 1, 1, Pair { picture: &[0], palette: &GREY }, work, &mut out);
             (answer.map_err(|refusal| refusal.number), picture, palette[0], palette[768], out)
         };
         let house = [23, 0, 0, 0, 0xFA, 0xF1, 1, 0, 0, 0, 0, 0, 0, 0, 0, 0, 7, 0, 0, 0, 16, 0, 3];

@@ -5,15 +5,106 @@ pub mod check;
 pub mod decode;
 pub mod encode;
 pub mod file_header;
-pub mod lent;
 pub mod listing;
 mod playing;
 pub mod reel;
 pub mod reel_mistakes;
-pub mod rng;
 pub mod top_level;
 pub mod trailer;
 mod walk;
+
+pub use decode::{size_at, word_at};
+pub use file_header::{field, FileHeader, FILE_HEADER};
+pub use listing::{MOST_DEPTH, MOST_LISTED};
+pub use reel::{Outcome, MAX_FRAMES};
+pub use top_level::Span;
+
+use flic_boundary::{Pair, PairMut, Reel};
+
+/// The model, with its mistakes.
+#[derive(Clone, Copy)]
+pub struct Model {
+    pub frames: decode::Mistake,
+    pub house: encode::Mistake,
+    pub reels: reel_mistakes::Mistake,
+}
+
+pub const MODEL: Model =
+    Model { frames: decode::Mistake::None, house: encode::Mistake::None, reels: reel_mistakes::Mistake::None };
+
+impl Model {
+    pub fn read_frame(&self, bytes: &[u8], width: u64, height: u64, shown: PairMut) -> Result<(), Refusal> {
+        decode::read_frame_with(self.frames, bytes, width, height, shown.picture, shown.palette)
+    }
+
+    pub fn write_frame(
+        &self,
+        width: u64,
+        height: u64,
+        previous: Pair,
+        next: Pair,
+        out: &mut [u8],
+    ) -> Result<usize, Refusal> {
+        encode::write_frame_with(self.house, width, height, previous, next, out)
+    }
+
+    pub fn house_frame(&self, width: usize, height: usize, previous: Pair, next: Pair) -> Vec<u8> {
+        encode::house_frame(width, height, previous, next)
+    }
+
+    pub fn rewrite_frame(
+        &self,
+        bytes: &[u8],
+        width: u64,
+        height: u64,
+        previous: Pair,
+        work: PairMut,
+        out: &mut [u8],
+    ) -> Result<usize, Refusal> {
+        encode::rewrite_frame_with(self.house, bytes, width, height, previous, work, out)
+    }
+
+    pub fn check_reel(&self, bytes: &[u8], first: PairMut, second: PairMut) -> Result<(), Refusal> {
+        check::check_reel_with(self.reels, bytes, first, second)
+    }
+
+    pub fn open_reel(&self, width: u64, height: u64, speed: u32, bytes: &mut [u8]) -> Outcome {
+        build::open_reel_with(self.reels, width, height, speed, bytes)
+    }
+
+    pub fn add_frame(&self, reel: Reel, bytes: &mut [u8], shown: Pair, next: Pair) -> Outcome {
+        build::add_frame_with(self.reels, reel, bytes, shown, next)
+    }
+
+    pub fn close_reel(&self, reel: Reel, bytes: &mut [u8], first: PairMut, second: PairMut) -> Outcome {
+        build::close_reel_with(self.reels, reel, bytes, first, second)
+    }
+
+    pub fn check_trailer(&self, bytes: &[u8]) -> Result<(), Refusal> {
+        trailer::check_trailer_with(self.reels, bytes)
+    }
+
+    pub fn write_trailer(&self, bytes: &mut [u8]) -> Result<usize, Refusal> {
+        trailer::write_trailer_with(self.reels, bytes)
+    }
+
+    pub fn list(&self, bytes: &[u8], out: &mut [u8]) -> Result<usize, Refusal> {
+        listing::list_with(self.reels, bytes, out)
+    }
+
+    /// The listing's text.
+    pub fn text(&self, bytes: &[u8]) -> String {
+        listing::text(bytes)
+    }
+
+    pub fn read_header(&self, bytes: &[u8]) -> Result<FileHeader, Refusal> {
+        file_header::read_header_with(self.reels, bytes)
+    }
+
+    pub fn next_frame(&self, bytes: &[u8], at: u64) -> Result<Span, Refusal> {
+        top_level::next_frame_with(self.reels, bytes, at)
+    }
+}
 
 /// The largest width and height of a picture.
 pub const MAX_WIDTH: u64 = 320;

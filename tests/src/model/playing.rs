@@ -1,9 +1,9 @@
 //! The states that playing a reel goes through, and the two working pairs in which it leaves them.
 
 use super::decode::{self, read_frame_with};
-use super::encode::{Shown, Work};
 use super::reel_mistakes::Mistake;
 use super::{Refusal, PALETTE_BYTES};
+use flic_boundary::{Pair, PairMut};
 
 /// A picture and palette without excess.
 #[derive(Clone, PartialEq, Eq)]
@@ -18,15 +18,15 @@ impl Screen {
     }
 
     /// What a lent pair, which isn't too short, holds.
-    pub fn held_by(pair: &Work, pixels: usize) -> Screen {
+    pub fn held_by(pair: &PairMut, pixels: usize) -> Screen {
         Screen { picture: pair.picture[..pixels].to_vec(), palette: pair.palette[..PALETTE_BYTES].to_vec() }
     }
 
-    pub fn shown(&self) -> Shown<'_> {
-        Shown { picture: &self.picture, palette: &self.palette }
+    pub fn shown(&self) -> Pair<'_> {
+        Pair { picture: &self.picture, palette: &self.palette }
     }
 
-    fn put_into(&self, mistake: Mistake, pair: &mut Work) {
+    fn put_into(&self, mistake: Mistake, pair: &mut PairMut) {
         if mistake == Mistake::ExcessBlanked {
             pair.picture.fill(0);
             pair.palette.fill(0);
@@ -82,7 +82,7 @@ impl Playing {
     }
 
     /// Leaves the last state in the first pair and frame 1's in the second.
-    pub fn leave(&self, refused: bool, first: &mut Work, second: &mut Work) {
+    pub fn leave(&self, refused: bool, first: &mut PairMut, second: &mut PairMut) {
         if refused && self.mistake == Mistake::PairsAsFoundWhenRefused {
             return;
         }

@@ -1,20 +1,10 @@
 //! The record of a reel that is being built, and what the calls that are handed one give back.
 
 use super::Refusal;
+use flic_boundary::Reel;
 
 /// The most frames of a reel, the ring not counted.
 pub const MAX_FRAMES: u64 = 4_000;
-
-/// A reel's record, laid out as the C boundary hands it over.
-#[repr(C)]
-#[derive(Clone, Copy, Debug, Default, PartialEq, Eq)]
-pub struct Reel {
-    pub width: u64,
-    pub height: u64,
-    pub frames: u64,
-    pub end: u64,
-    pub closed: u32,
-}
 
 /// An answer, and the record that goes with it: a refusal gives back the record handed in.
 #[derive(Clone, Copy, Debug, PartialEq, Eq)]

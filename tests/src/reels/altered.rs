@@ -1,15 +1,15 @@
 //! Families of open reels that were altered before the close: any byte, and frames made shorter, longer, or other.
 
 use super::built_reel::Built;
-use super::cases::Sink;
 use super::loose_reel::{other_chunk, Loose};
 use super::make::{check_of, close_of};
 use crate::damage::{changed_values, set_size, set_word};
-use crate::model::reel::Reel;
-use crate::model::rng::Rng;
 use crate::model::{FRAME_TYPE, PREFIX_TYPE};
+use crate::rng::Rng;
+use crate::runner::inputs::Sink;
 use crate::sizes::small_size;
 use crate::write_cases::ample_room;
+use flic_boundary::Reel;
 
 /// Each byte of an open reel, the header's too, changed to several values.
 pub fn open_bytes(rng: &mut Rng, sink: Sink) {

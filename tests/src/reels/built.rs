@@ -1,12 +1,12 @@
 //! Families of built reels: opened, added to, closed, checked, and played three laps.
 
 use super::built_reel::Built;
-use super::cases::Sink;
 use super::make::{add_of, reel_size};
-use crate::model::reel::{Reel, MAX_FRAMES};
-use crate::model::rng::Rng;
-use crate::model::{MAX_HEIGHT, MAX_WIDTH};
+use crate::model::{MAX_FRAMES, MAX_HEIGHT, MAX_WIDTH};
+use crate::rng::Rng;
+use crate::runner::inputs::Sink;
 use crate::states::{next_state, state, State};
+use flic_boundary::Reel;
 
 /// Reels of 1 to 60 frames, each add handed what the last one asked for.
 pub fn built(rng: &mut Rng, sink: Sink) {

@@ -1,14 +1,14 @@
 //! A reel that the model opened and added to, of which every call is known.
 
-use super::cases::{AddCase, OpenCase, PlayCase, ReelCase, Sink};
 use super::make::{check_of, close_of, play};
-use crate::model::build::{add_frame, close_reel, open_reel};
-use crate::model::file_header::FILE_HEADER;
-use crate::model::reel::Reel;
-use crate::model::rng::Rng;
+use crate::model::{FILE_HEADER, MODEL};
+use crate::rng::Rng;
+use crate::runner::calls::{AddCase, OpenCase};
+use crate::runner::inputs::{Case, PlayCase, Sink};
 use crate::sizes::long_or_exact;
 use crate::states::{lend, next_state, State};
 use crate::write_cases::ample_room;
+use flic_boundary::Reel;
 
 /// One accepted add: the state it was handed, the one it asked for, and where its frame begins.
 pub struct Added {
@@ -31,7 +31,10 @@ impl Built {
     pub fn opened(rng: &mut Rng, width: usize, height: usize) -> Built {
         let speed = rng.draw() as u32;
         let mut bytes = rng.bytes(FILE_HEADER);
-        open_reel(width as u64, height as u64, speed, &mut bytes).answer.expect("an open of a right size is done");
+        MODEL
+            .open_reel(width as u64, height as u64, speed, &mut bytes)
+            .answer
+            .expect("an open of a right size is done");
         Built { width, height, speed, adds: Vec::new(), bytes }
     }
 
@@ -51,7 +54,7 @@ impl Built {
         let place = self.bytes.len();
         let record = self.record(self.adds.len());
         self.bytes.resize(place + ample_room(self.pixels()), 0);
-        let outcome = add_frame(record, &mut self.bytes, shown.shown(), next.shown());
+        let outcome = MODEL.add_frame(record, &mut self.bytes, shown.shown(), next.shown());
         outcome.answer.expect("an add with ample room is done");
         self.bytes.truncate(outcome.reel.end as usize);
         self.adds.push(Added { shown, next, place });
@@ -78,7 +81,7 @@ impl Built {
         let mut bytes = self.bytes.clone();
         bytes.resize(bytes.len() + ample_room(self.pixels()), 0);
         let (mut first, mut second) = (State::blank(self.pixels()), State::blank(self.pixels()));
-        let outcome = close_reel(self.last_record(), &mut bytes, first.work(), second.work());
+        let outcome = MODEL.close_reel(self.last_record(), &mut bytes, first.work(), second.work());
         outcome.answer.expect("a close of built frames with ample room is done");
         bytes.truncate(outcome.reel.end as usize);
         (outcome.reel, bytes)
@@ -89,19 +92,19 @@ impl Built {
         [self.bytes.clone(), rng.bytes(room)].concat()
     }
 
-    pub fn open_case(&self, rng: &mut Rng) -> ReelCase {
+    pub fn open_case(&self, rng: &mut Rng) -> Case {
         let length = some_excess(rng, FILE_HEADER);
         let bytes = rng.bytes(length);
-        ReelCase::Open(OpenCase { width: self.width as u64, height: self.height as u64, speed: self.speed, bytes })
+        Case::Open(OpenCase { width: self.width as u64, height: self.height as u64, speed: self.speed, bytes })
     }
 
     /// The add number `which`, as it was accepted, into bytes that have `room` after the record's end.
-    pub fn add_case(&self, rng: &mut Rng, which: usize, room: usize) -> ReelCase {
+    pub fn add_case(&self, rng: &mut Rng, which: usize, room: usize) -> Case {
         let Added { shown, next, place } = &self.adds[which];
         let bytes = [self.bytes[..*place].to_vec(), rng.bytes(room)].concat();
         let (lent_shown, lent_next) = (long_or_exact(rng, self.pixels()), long_or_exact(rng, self.pixels()));
         let (shown, next) = (lend(rng, shown, lent_shown), lend(rng, next, lent_next));
-        ReelCase::Add(AddCase { reel: self.record(which), bytes, shown, next })
+        Case::Add(AddCase { reel: self.record(which), bytes, shown, next })
     }
 
     /// How many bytes the frame of an add takes.
@@ -124,7 +127,7 @@ impl Built {
         let lent = [bytes.clone(), rng.bytes(after)].concat();
         sink(close_of(rng, record, lent.clone()));
         sink(check_of(rng, lent));
-        sink(ReelCase::Play(PlayCase { bytes, width: self.width, height: self.height, states }));
+        sink(Case::Play(PlayCase { bytes, width: self.width, height: self.height, states }));
     }
 
     /// The states that the adds asked for.

@@ -1,12 +1,11 @@
 //! Families of top-level chunks: stepped over, of wrong sizes, half there, and frames that are damaged.
 
-use super::cases::Sink;
 use super::loose_reel::{any_frame, chunk_of, other_chunk, Loose};
 use super::make::{check_of, close_of};
 use crate::damage::{self, set_size, set_word, wrong_size_field};
-use crate::model::file_header::{field, FILE_HEADER};
-use crate::model::rng::Rng;
-use crate::model::{kind, FRAME_TYPE, PREFIX_TYPE};
+use crate::model::{field, kind, FILE_HEADER, FRAME_TYPE, PREFIX_TYPE};
+use crate::rng::Rng;
+use crate::runner::inputs::Sink;
 use crate::sizes::{right_size, small_size};
 use crate::write_cases::ample_room;
 

@@ -1,11 +1,10 @@
 //! The families of the reel tests; a family and a seed give the same inputs again.
 
-use super::cases::ReelCase;
 use super::{altered, built, chunks, headers, lent, records, rings};
-use crate::cases::Family;
+use crate::runner::inputs::{Case, Family};
 
 /// The families that the self-check goes through, then those of large reels.
-pub const FAMILIES: [Family<ReelCase>; 20] = [
+pub const FAMILIES: [Family<Case>; 20] = [
     Family { name: "built", batches: 900, emit: built::built },
     Family { name: "showing", batches: 500, emit: built::showing },
     Family { name: "opens", batches: 40, emit: headers::opens },
@@ -34,7 +33,7 @@ pub const SMALL: usize = 18;
 #[cfg(test)]
 mod tests {
     use super::*;
-    use crate::cases::same_again;
+    use crate::runner::inputs::same_again;
 
     #[test]
     fn a_seed_gives_its_batch_again() {

@@ -1,11 +1,12 @@
 //! Families of file headers: opened ones, changed ones, those with several faults, and reels cut anywhere.
 
 use super::built_reel::Built;
-use super::cases::{CheckCase, OpenCase, ReelCase, Sink};
 use super::make::check_of;
 use crate::damage::{changed_values, set_size, set_word};
-use crate::model::file_header::{field, FILE_HEADER};
-use crate::model::rng::Rng;
+use crate::model::{field, FILE_HEADER};
+use crate::rng::Rng;
+use crate::runner::calls::{CheckCase, OpenCase};
+use crate::runner::inputs::{Case, Sink};
 use crate::sizes::{exact, right_size, short_lengths, small_size, wrong_or_right};
 use crate::states::any_state;
 
@@ -16,7 +17,7 @@ pub fn opens(rng: &mut Rng, sink: Sink) {
     let mut open = |rng: &mut Rng, width: u64, height: u64, room: usize| {
         let bytes = rng.bytes(room);
         let speed = rng.pick(&SPEEDS);
-        sink(ReelCase::Open(OpenCase { width, height, speed, bytes }));
+        sink(Case::Open(OpenCase { width, height, speed, bytes }));
     };
     for room in 0..=FILE_HEADER + 2 {
         let (width, height) = small_size(rng);
@@ -98,7 +99,7 @@ pub fn header_faults(rng: &mut Rng, sink: Sink) {
     }
 }
 
-fn two_faults(rng: &mut Rng, whole: &[u8], pixels: usize, faults: [Fault; 2]) -> ReelCase {
+fn two_faults(rng: &mut Rng, whole: &[u8], pixels: usize, faults: [Fault; 2]) -> Case {
     let mut bytes = whole.to_vec();
     let mut both = [exact(pixels); 2];
     let length = whole.len() as u32;
@@ -113,7 +114,7 @@ fn two_faults(rng: &mut Rng, whole: &[u8], pixels: usize, faults: [Fault; 2]) ->
         }
     }
     bytes.truncate(kept);
-    ReelCase::Check(CheckCase { bytes, first: any_state(rng, both[0]), second: any_state(rng, both[1]) })
+    Case::Check(CheckCase { bytes, first: any_state(rng, both[0]), second: any_state(rng, both[1]) })
 }
 
 /// Every beginning of a reel, as it is and with its size field set to the cut.

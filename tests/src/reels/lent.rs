@@ -1,9 +1,10 @@
 //! The family of lent slices: each picture and palette of a call, one at a time, shorter or longer than needed.
 
 use super::built_reel::Built;
-use super::cases::{AddCase, CheckCase, CloseCase, ReelCase, Sink};
-use crate::model::rng::Rng;
 use crate::model::PALETTE_BYTES;
+use crate::rng::Rng;
+use crate::runner::calls::{AddCase, CheckCase, CloseCase};
+use crate::runner::inputs::{Case, Sink};
 use crate::sizes::{exact, small_size};
 use crate::states::{any_state, State};
 use crate::write_cases::ample_room;
@@ -31,9 +32,9 @@ pub fn slices(rng: &mut Rng, sink: Sink) {
         for length in [0, needed / 2, needed - 1, needed, needed + 1, needed + 40] {
             let (first, second) = pairs(rng, width * height, slice, length);
             let (shown, next) = (first.clone(), second.clone());
-            sink(ReelCase::Check(CheckCase { bytes: closed.clone(), first: first.clone(), second: second.clone() }));
-            sink(ReelCase::Add(AddCase { reel, bytes: open.clone(), shown, next }));
-            sink(ReelCase::Close(CloseCase { reel, bytes: open.clone(), first, second }));
+            sink(Case::Check(CheckCase { bytes: closed.clone(), first: first.clone(), second: second.clone() }));
+            sink(Case::Add(AddCase { reel, bytes: open.clone(), shown, next }));
+            sink(Case::Close(CloseCase { reel, bytes: open.clone(), first, second }));
         }
     }
 }

@@ -3,14 +3,11 @@
 use super::make::play;
 use crate::damage::{set_size, set_word};
 use crate::frames::{Frame, Maker};
-use crate::model::build::open_reel;
-use crate::model::encode::house_frame;
-use crate::model::file_header::{field, FILE_HEADER};
-use crate::model::reel::Reel;
-use crate::model::rng::Rng;
-use crate::model::{kind, FRAME_TYPE, PREFIX_TYPE};
+use crate::model::{field, kind, FILE_HEADER, FRAME_TYPE, MODEL, PREFIX_TYPE};
+use crate::rng::Rng;
 use crate::sizes::small_size;
 use crate::states::State;
+use flic_boundary::Reel;
 
 /// A reel of any chunks before it is written.
 #[derive(Clone)]
@@ -30,7 +27,7 @@ impl Loose {
         let chunks: Vec<Vec<u8>> = (0..frames).map(|_| any_frame(rng, width, height, None).bytes()).collect();
         let mut loose = Loose { width, height, frames, chunks, after: Vec::new() };
         let (first, last) = loose.first_and_last();
-        loose.chunks.push(house_frame(width, height, last.shown(), first.shown()));
+        loose.chunks.push(MODEL.house_frame(width, height, last.shown(), first.shown()));
         loose
     }
 
@@ -67,7 +64,7 @@ impl Loose {
     /// The chunks after the header of a reel that isn't closed.
     pub fn open_bytes(&self) -> Vec<u8> {
         let mut bytes = vec![0; FILE_HEADER];
-        open_reel(self.width as u64, self.height as u64, 70, &mut bytes).answer.expect("the size is right");
+        MODEL.open_reel(self.width as u64, self.height as u64, 70, &mut bytes).answer.expect("the size is right");
         bytes.extend(self.chunks.concat());
         bytes
     }

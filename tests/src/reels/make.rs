@@ -1,13 +1,12 @@
 //! What the families of reels share: sizes, pairs, and calls on bytes that are at hand.
 
-use super::cases::{AddCase, CheckCase, CloseCase, ReelCase};
-use crate::model::accepted_size;
-use crate::model::decode::{read_frame, word_at};
-use crate::model::file_header::{field, FILE_HEADER};
-use crate::model::reel::Reel;
-use crate::model::rng::Rng;
+use crate::model::{accepted_size, field, word_at, FILE_HEADER, MODEL};
+use crate::rng::Rng;
+use crate::runner::calls::{AddCase, CheckCase, CloseCase};
+use crate::runner::inputs::Case;
 use crate::sizes::{long_or_exact, small_size};
 use crate::states::{any_state, State};
+use flic_boundary::Reel;
 
 /// A size for a reel of many calls: the smallest, odd and even widths, single rows and columns.
 pub fn reel_size(rng: &mut Rng) -> (usize, usize) {
@@ -30,29 +29,28 @@ pub fn pixels_of(width: u64, height: u64) -> usize {
 }
 
 /// A check of these bytes, with pairs that hold the size that their header tells.
-pub fn check_of(rng: &mut Rng, bytes: Vec<u8>) -> ReelCase {
+pub fn check_of(rng: &mut Rng, bytes: Vec<u8>) -> Case {
     let pixels = if bytes.len() < FILE_HEADER {
         1
     } else {
         pixels_of(word_at(&bytes, field::WIDTH).into(), word_at(&bytes, field::HEIGHT).into())
     };
-    ReelCase::Check(CheckCase { bytes, first: pair(rng, pixels), second: pair(rng, pixels) })
+    Case::Check(CheckCase { bytes, first: pair(rng, pixels), second: pair(rng, pixels) })
 }
 
 /// A close of these bytes, with pairs that hold the size that the record tells.
-pub fn close_of(rng: &mut Rng, reel: Reel, bytes: Vec<u8>) -> ReelCase {
+pub fn close_of(rng: &mut Rng, reel: Reel, bytes: Vec<u8>) -> Case {
     let pixels = pixels_of(reel.width, reel.height);
-    ReelCase::Close(CloseCase { reel, bytes, first: pair(rng, pixels), second: pair(rng, pixels) })
+    Case::Close(CloseCase { reel, bytes, first: pair(rng, pixels), second: pair(rng, pixels) })
 }
 
 /// An add to these bytes of a frame between any two states.
-pub fn add_of(rng: &mut Rng, reel: Reel, bytes: Vec<u8>) -> ReelCase {
+pub fn add_of(rng: &mut Rng, reel: Reel, bytes: Vec<u8>) -> Case {
     let pixels = pixels_of(reel.width, reel.height);
-    ReelCase::Add(AddCase { reel, bytes, shown: pair(rng, pixels), next: pair(rng, pixels) })
+    Case::Add(AddCase { reel, bytes, shown: pair(rng, pixels), next: pair(rng, pixels) })
 }
 
 /// Plays a frame that is right.
 pub fn play(width: usize, height: usize, shown: &mut State, frame: &[u8]) {
-    let State { picture, palette } = shown;
-    read_frame(frame, width as u64, height as u64, picture, palette).expect("this frame is right");
+    MODEL.read_frame(frame, width as u64, height as u64, shown.work()).expect("this frame is right");
 }

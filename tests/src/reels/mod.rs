@@ -1,21 +1,14 @@
 //! The tests of reels: what their calls lend, seeded inputs, and the comparison of the library with the model.
 
 pub mod altered;
-pub mod behind;
-pub mod boundary;
 pub mod built;
 pub mod built_reel;
-pub mod cases;
 pub mod chunks;
-pub mod compare;
 pub mod examples;
 pub mod families;
 pub mod headers;
-pub mod huge;
 pub mod lent;
 pub mod loose_reel;
 pub mod make;
-pub mod met;
 pub mod records;
 pub mod rings;
-pub mod self_check;

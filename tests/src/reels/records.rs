@@ -1,13 +1,15 @@
 //! Families of records: altered ones handed to add and close, and every room around what those need.
 
 use super::built_reel::Built;
-use super::cases::{AddCase, CloseCase, ReelCase, Sink};
 use super::make::{add_of, close_of};
-use crate::model::reel::{Reel, MAX_FRAMES};
-use crate::model::rng::Rng;
+use crate::model::MAX_FRAMES;
+use crate::rng::Rng;
+use crate::runner::calls::{AddCase, CloseCase};
+use crate::runner::inputs::{Case, Sink};
 use crate::sizes::{exact, short_lengths, small_size, wrong_size};
 use crate::states::any_state;
 use crate::write_cases::ample_room;
+use flic_boundary::Reel;
 
 fn small_built(rng: &mut Rng) -> Built {
     let (width, height) = small_size(rng);
@@ -94,8 +96,8 @@ fn two_faults(rng: &mut Rng, built: &Built, faults: [Fault; 2], sink: Sink) {
     }
     let (first, second) = (any_state(rng, both[0]), any_state(rng, both[1]));
     let (shown, next) = (first.clone(), second.clone());
-    sink(ReelCase::Add(AddCase { reel, bytes: bytes.clone(), shown, next }));
-    sink(ReelCase::Close(CloseCase { reel, bytes, first, second }));
+    sink(Case::Add(AddCase { reel, bytes: bytes.clone(), shown, next }));
+    sink(Case::Close(CloseCase { reel, bytes, first, second }));
 }
 
 /// Every room from none to two bytes more than the last add and the close need, and bytes that end before the record.

@@ -1,11 +1,12 @@
 //! The family of rings: those that lead back, and those that go astray by a pixel, a colour, or only in excess bytes.
 
-use super::cases::{CheckCase, ReelCase, Sink};
 use super::loose_reel::Loose;
 use super::make::check_of;
 use crate::frames::frame_of;
-use crate::model::encode::house_frame;
-use crate::model::rng::Rng;
+use crate::model::MODEL;
+use crate::rng::Rng;
+use crate::runner::calls::CheckCase;
+use crate::runner::inputs::{Case, Sink};
 use crate::sizes::long_lengths;
 use crate::states::{any_state, state, State};
 
@@ -16,8 +17,8 @@ pub fn rings(rng: &mut Rng, sink: Sink) {
     loose.chunks.pop();
     let (first, last) = loose.first_and_last();
     let ring = loose.chunks.len();
-    let house = |to: &State| house_frame(width, height, last.shown(), to.shown());
-    let from_itself = house_frame(width, height, first.shown(), first.shown());
+    let house = |to: &State| MODEL.house_frame(width, height, last.shown(), to.shown());
+    let from_itself = MODEL.house_frame(width, height, first.shown(), first.shown());
     let (mut pixel, mut colour) = (first.clone(), first.clone());
     pixel.picture[rng.below(width * height)] ^= 1 << rng.below(8);
     colour.palette[rng.pick(&[0, 1, 383, 766, 767])] ^= 1 << rng.below(8);
@@ -40,5 +41,5 @@ pub fn rings(rng: &mut Rng, sink: Sink) {
     loose.chunks[ring] = house(&first);
     let lengths = long_lengths(rng, width * height);
     let (first, second) = (any_state(rng, lengths), any_state(rng, lengths));
-    sink(ReelCase::Check(CheckCase { bytes: loose.bytes(), first, second }));
+    sink(Case::Check(CheckCase { bytes: loose.bytes(), first, second }));
 }

@@ -1,9 +1,9 @@
 //! The family of whole-reel checks around the writing of a trailer: reels that are right, damaged, or go astray.
 
-use super::cases::{Sink, TrailerCase};
 use super::make::{checks_of, ReelFamily};
-use crate::model::rng::Rng;
 use crate::reels::{built, chunks, rings};
+use crate::rng::Rng;
+use crate::runner::inputs::{AroundCase, Sink};
 
 const REELS: [ReelFamily; 4] = [built::built, chunks::others, chunks::damaged, rings::rings];
 
@@ -13,6 +13,6 @@ pub fn around(rng: &mut Rng, sink: Sink) {
     for mut case in checks_of(rng, family) {
         let room = rng.pick(&[0, 300, 300, 320]);
         case.bytes.extend(rng.bytes(room));
-        sink(TrailerCase::Around(case));
+        sink(AroundCase(case).into());
     }
 }

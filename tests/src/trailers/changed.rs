@@ -1,21 +1,22 @@
 //! Families of wrong trailers: any byte changed, more or fewer bytes, and fields that fit one another but not the reel.
 
-use super::cases::{Sink, TrailerCase};
 use super::make::trailer_of;
 use crate::damage::changed_values;
-use crate::model::decode::size_at;
-use crate::model::rng::Rng;
+use crate::model::size_at;
 use crate::reels::headers::small_reel;
 use crate::reels::loose_reel::Loose;
+use crate::rng::Rng;
+use crate::runner::calls::CheckTrailerCase;
+use crate::runner::inputs::Sink;
 
 /// Checks of a file with one byte changed to several values, that byte's own among them.
 pub fn changed_at(whole: &[u8], at: usize, sink: Sink) {
     for value in changed_values(whole[at], false) {
         let mut changed = whole.to_vec();
         changed[at] = value;
-        sink(TrailerCase::Check(changed));
+        sink(CheckTrailerCase(changed).into());
     }
-    sink(TrailerCase::Check(whole.to_vec()));
+    sink(CheckTrailerCase(whole.to_vec()).into());
 }
 
 /// Each byte of a trailer changed in turn.
@@ -31,7 +32,7 @@ pub fn trailer_bytes(rng: &mut Rng, sink: Sink) {
 pub fn trailer_lengths(rng: &mut Rng, sink: Sink) {
     let reel = small_reel(rng);
     let trailer = trailer_of(&reel);
-    let mut check = |rest: &[&[u8]]| sink(TrailerCase::Check([&reel[..], &rest.concat()].concat()));
+    let mut check = |rest: &[&[u8]]| sink(CheckTrailerCase([&reel[..], &rest.concat()].concat()).into());
     for cut in 0..=trailer.len() {
         check(&[&trailer[..cut]]);
         check(&[&trailer[cut..]]);
@@ -96,7 +97,7 @@ pub fn trailer_fields(rng: &mut Rng, sink: Sink) {
     wrong.extend([0, 2, 256, 257].map(|edition| Fields { edition, ..right.clone() }));
     wrong.push(right);
     for fields in wrong {
-        sink(TrailerCase::Check([&reel[..], &fields.bytes()].concat()));
+        sink(CheckTrailerCase([&reel[..], &fields.bytes()].concat()).into());
     }
 }
 

@@ -1,11 +1,10 @@
 //! The families of the tests of trailers, listings and steps; a family and a seed give the same inputs again.
 
-use super::cases::TrailerCase;
 use super::{around, changed, limits, nested, steps, walked, written};
-use crate::cases::Family;
+use crate::runner::inputs::{Case, Family};
 
 /// The families that the self-check goes through, then those of large reels.
-pub const FAMILIES: [Family<TrailerCase>; 26] = [
+pub const FAMILIES: [Family<Case>; 26] = [
     Family { name: "ignored", batches: 4_000, emit: written::ignored },
     Family { name: "rooms", batches: 60, emit: written::rooms },
     Family { name: "old-trailers", batches: 1_000, emit: written::old_trailers },
@@ -40,7 +39,7 @@ pub const SMALL: usize = 23;
 #[cfg(test)]
 mod tests {
     use super::*;
-    use crate::cases::same_again;
+    use crate::runner::inputs::same_again;
 
     #[test]
     fn a_seed_gives_its_batch_again() {

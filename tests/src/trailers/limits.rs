@@ -1,14 +1,13 @@
 //! The family of inputs around the longest that is listed, as reels and as anything else, and of as many lines as fit.
 
-use super::cases::Sink;
 use super::make::each_call;
 use super::nest::{children_start, chunk, container};
 use crate::frames::frame_of;
-use crate::model::listing::{MOST_DEPTH, MOST_LISTED};
-use crate::model::rng::Rng;
-use crate::model::{CHUNK_HEADER, FRAME_TYPE, PREFIX_TYPE};
+use crate::model::{CHUNK_HEADER, FRAME_TYPE, MOST_DEPTH, MOST_LISTED, PREFIX_TYPE};
 use crate::reels::headers::small_reel;
 use crate::reels::loose_reel::Loose;
+use crate::rng::Rng;
+use crate::runner::inputs::Sink;
 
 fn bytes_of(chunks: Vec<Vec<u8>>) -> Vec<u8> {
     Loose { width: 320, height: 200, frames: 1, chunks, after: Vec::new() }.bytes()

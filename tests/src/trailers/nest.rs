@@ -1,8 +1,8 @@
 //! Makes chunks that hold chunks: plain ones, and trees of all kinds with slips in their counts and sizes.
 
 use crate::damage::{set_size, set_word, wrong_size_field};
-use crate::model::rng::Rng;
 use crate::model::{kind, CHUNK_HEADER, FRAME_TYPE, PREFIX_TYPE};
+use crate::rng::Rng;
 
 /// The kinds that hold children.
 pub const CONTAINERS: [u16; 3] = [PREFIX_TYPE, FRAME_TYPE, kind::PSTAMP];

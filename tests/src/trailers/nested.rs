@@ -1,14 +1,14 @@
 //! Families of listings: trees of chunks, chains of containers, children that don't fit, short containers, outputs.
 
-use super::cases::{ListCase, Sink, TrailerCase};
 use super::make::{each_call, list_of};
 use super::nest::{children_start, chunk, container, Nester, CONTAINERS};
 use crate::damage::{set_size, set_word, wrong_size_field};
 use crate::frames::frame_of;
-use crate::model::listing::text;
-use crate::model::rng::Rng;
-use crate::model::{kind, FRAME_HEADER, FRAME_TYPE, PREFIX_TYPE};
+use crate::model::{kind, FRAME_HEADER, FRAME_TYPE, MODEL, PREFIX_TYPE};
 use crate::reels::loose_reel::Loose;
+use crate::rng::Rng;
+use crate::runner::calls::ListCase;
+use crate::runner::inputs::{Case, Sink};
 use crate::sizes::small_size;
 
 /// The levels of containers that are tried.
@@ -174,14 +174,14 @@ pub fn short_containers(rng: &mut Rng, sink: Sink) {
 pub fn outputs(rng: &mut Rng, sink: Sink) {
     let reel = loop {
         let bytes = reel_of_trees(rng, Some(10)).bytes();
-        if text(&bytes).len() < 200 {
+        if MODEL.text(&bytes).len() < 200 {
             break bytes;
         }
     };
     let cut = reel[..rng.below(reel.len())].to_vec();
     for bytes in [reel, cut, Vec::new()] {
-        for room in 0..=text(&bytes).len() + 2 {
-            sink(TrailerCase::List(ListCase { bytes: bytes.clone(), out: rng.bytes(room) }));
+        for room in 0..=MODEL.text(&bytes).len() + 2 {
+            sink(Case::List(ListCase { bytes: bytes.clone(), out: rng.bytes(room) }));
         }
     }
 }

@@ -1,9 +1,10 @@
 //! Families of steps to the next frame: from every offset of a reel and past it, and in every beginning of one.
 
-use super::cases::{Sink, StepCase, TrailerCase};
-use crate::model::file_header::FILE_HEADER;
-use crate::model::rng::Rng;
+use crate::model::FILE_HEADER;
 use crate::reels::loose_reel::Loose;
+use crate::rng::Rng;
+use crate::runner::calls::StepCase;
+use crate::runner::inputs::{Case, Sink};
 
 /// Offsets that no bytes reach, some of which are right but for their high half.
 const FAR: [u64; 8] = [
@@ -34,7 +35,7 @@ pub fn offsets(rng: &mut Rng, sink: Sink) {
     let (bytes, _) = small_loose(rng);
     let near = 0..bytes.len() as u64 + 20;
     for at in near.chain(FAR) {
-        sink(TrailerCase::Step(StepCase { bytes: bytes.clone(), at }));
+        sink(Case::Step(StepCase { bytes: bytes.clone(), at }));
     }
 }
 
@@ -44,7 +45,7 @@ pub fn cut_reels(rng: &mut Rng, sink: Sink) {
     for length in 0..=bytes.len() {
         let around = [0, 5, 6, 7, 15, 16, 17].map(|left| length.saturating_sub(left));
         for at in [FILE_HEADER, rng.pick(&places), length + 1].into_iter().chain(around) {
-            sink(TrailerCase::Step(StepCase { bytes: bytes[..length].to_vec(), at: at as u64 }));
+            sink(Case::Step(StepCase { bytes: bytes[..length].to_vec(), at: at as u64 }));
         }
     }
 }

@@ -1,11 +1,10 @@
 //! Families of what the walk before a trailer or a listing may meet: the reel tests' file headers and top-level chunks.
 
-use super::cases::Sink;
 use super::make::{checks_of, each_call, trailer_length, ReelFamily};
-use crate::model::file_header::FILE_HEADER;
-use crate::model::rng::Rng;
-use crate::model::trailer::write_trailer;
+use crate::model::{FILE_HEADER, MODEL};
 use crate::reels::{chunks, headers};
+use crate::rng::Rng;
+use crate::runner::inputs::Sink;
 
 /// Each call on the reels of a family of the reel tests, with nothing, anything or a trailer after what is there.
 fn walked(rng: &mut Rng, family: ReelFamily, sink: Sink) {
@@ -19,7 +18,7 @@ fn walked(rng: &mut Rng, family: ReelFamily, sink: Sink) {
         };
         bytes.extend(rng.bytes(room));
         if rng.once_in(2) {
-            let length = write_trailer(&mut bytes).unwrap_or(bytes.len());
+            let length = MODEL.write_trailer(&mut bytes).unwrap_or(bytes.len());
             bytes.truncate(length);
         }
         each_call(rng, bytes, sink);

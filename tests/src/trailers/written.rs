@@ -1,17 +1,17 @@
 //! Families of written trailers: every count of frames, every room, old trailers, ignored bytes before the size.
 
-use super::cases::{Sink, TrailerCase};
 use super::changed::changed_at;
 use super::make::{each_call, list_of, trailer_length, trailer_of};
 use crate::damage::set_word;
 use crate::frames::frame_of;
-use crate::model::file_header::field;
-use crate::model::reel::MAX_FRAMES;
-use crate::model::rng::Rng;
+use crate::model::{field, MAX_FRAMES};
 use crate::reels::built_reel::Built;
 use crate::reels::headers::small_reel;
 use crate::reels::loose_reel::Loose;
 use crate::reels::make::reel_size;
+use crate::rng::Rng;
+use crate::runner::calls::{CheckTrailerCase, WriteTrailerCase};
+use crate::runner::inputs::Sink;
 
 /// A trailer written into the least room and into more, over chance and over itself, and then checked and listed.
 fn written(rng: &mut Rng, reel: &[u8], sink: Sink) {
@@ -19,9 +19,9 @@ fn written(rng: &mut Rng, reel: &[u8], sink: Sink) {
     let whole = [reel, &trailer].concat();
     for room in [0, trailer.len() - 1, trailer.len(), trailer.len() + rng.between(1, 40)] {
         let bytes = [reel, &rng.bytes(room)].concat();
-        sink(TrailerCase::Write(bytes));
+        sink(WriteTrailerCase(bytes).into());
     }
-    sink(TrailerCase::Check(reel.to_vec()));
+    sink(CheckTrailerCase(reel.to_vec()).into());
     sink(list_of(rng, reel.to_vec()));
     each_call(rng, whole, sink);
 }
@@ -65,8 +65,8 @@ pub fn rooms(rng: &mut Rng, sink: Sink) {
     let reel = small_reel(rng);
     for room in 0..=trailer_length(&reel) + 3 {
         let bytes = [&reel[..], &rng.bytes(room)].concat();
-        sink(TrailerCase::Write(bytes.clone()));
-        sink(TrailerCase::Check(bytes));
+        sink(WriteTrailerCase(bytes.clone()).into());
+        sink(CheckTrailerCase(bytes).into());
     }
 }
 

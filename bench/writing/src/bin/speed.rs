@@ -1,19 +1,13 @@
 //! Measures the library against the model, side by side in one run, and prints ratios; nothing fails by them.
 //! A ratio under 1 means that the library is the faster one. Growth is the library's time for four times the pixels, over four.
 
-#[path = "../library.rs"]
-mod library;
-
 use std::time::Instant;
 
-use flic_tests::behind;
-use flic_tests::boundary::{ReadCall, WriteCall};
-use flic_tests::cases::ReadCase;
-use flic_tests::command::fail;
-use flic_tests::model::rng::Rng;
-use flic_tests::model::PALETTE_BYTES;
+use flic_boundary::{self as library, PairMut};
+use flic_tests::model::{MODEL, PALETTE_BYTES};
+use flic_tests::rng::Rng;
+use flic_tests::runner::command::fail;
 use flic_tests::states::State;
-use flic_tests::write_cases::WriteCase;
 
 const ROUNDS: usize = 7;
 const ROUND_SECONDS: f64 = 0.03;
@@ -38,23 +32,22 @@ fn main() {
     for (name, previous, next) in SCENES {
         let large = Scene::new(LARGE, previous, next);
         let small = Scene::new(SMALL, previous, next);
-        let (read, read_model) = (large.reading(library::reads), large.reading(behind::reads));
-        let (write, write_model) = (large.writing(library::writes), large.writing(behind::writes));
+        let (read, write) = (large.read(), large.write());
         println!(
             "  {name:<22} {:>9} {:>8.2} {:>8.2} {:>8.2} {:>8.2}",
             large.frame.len(),
-            read / read_model,
-            read / small.reading(library::reads) / 4.0,
-            write / write_model,
-            write / small.writing(library::writes) / 4.0,
+            read / large.read_by_model(),
+            read / small.read() / 4.0,
+            write / large.write_by_model(),
+            write / small.write() / 4.0,
         );
     }
 }
 
 /// Two states of one size, and the frame that leads from one to the other.
 struct Scene {
-    width: usize,
-    height: usize,
+    width: u64,
+    height: u64,
     previous: State,
     next: State,
     frame: Vec<u8>,
@@ -63,45 +56,48 @@ struct Scene {
 impl Scene {
     fn new((width, height): (usize, usize), previous: Picture, next: Picture) -> Scene {
         let state = |picture: Picture| State { picture: picture(width, height), palette: vec![7; PALETTE_BYTES] };
-        let mut scene = Scene { width, height, previous: state(previous), next: state(next), frame: Vec::new() };
-        let mut call = scene.write_call();
-        let answer = library::writes(&mut call);
-        if answer.number != 0 {
-            fail(&format!("speed: a frame was refused with {}", answer.number), "run the writing test first");
+        let (previous, next, mut out) = (state(previous), state(next), vec![0; library::FRAME_MOST]);
+        let (width, height) = (width as u64, height as u64);
+        let written = library::write_frame(width, height, previous.shown(), next.shown(), &mut out);
+        if written.number != 0 {
+            fail(&format!("speed: a frame was refused with {}", written.number), "run the writing test first");
         }
-        scene.frame = call.out.content()[..answer.length as usize].to_vec();
-        scene
+        out.truncate(written.length as usize);
+        Scene { width, height, previous, next, frame: out }
     }
 
-    fn write_call(&self) -> WriteCall {
-        let case = WriteCase {
-            width: self.width as u64,
-            height: self.height as u64,
-            previous: self.previous.clone(),
-            next: self.next.clone(),
-            out: vec![0; 1 << 17],
-        };
-        WriteCall::lending(&case, 1)
-    }
-
-    fn writing<A>(&self, writer: fn(&mut WriteCall) -> A) -> f64 {
-        let mut call = self.write_call();
-        seconds(|| {
-            writer(&mut call);
+    fn write(&self) -> f64 {
+        self.writing(|out| {
+            library::write_frame(self.width, self.height, self.previous.shown(), self.next.shown(), out);
         })
     }
 
-    fn reading<A>(&self, reader: fn(&mut ReadCall) -> A) -> f64 {
-        let case = ReadCase {
-            bytes: self.frame.clone(),
-            width: self.width as u64,
-            height: self.height as u64,
-            shown: self.previous.clone(),
-        };
-        let mut call = ReadCall::lending(&case, 1);
-        seconds(|| {
-            reader(&mut call);
+    fn write_by_model(&self) -> f64 {
+        self.writing(|out| {
+            let _ = MODEL.write_frame(self.width, self.height, self.previous.shown(), self.next.shown(), out);
         })
+    }
+
+    fn read(&self) -> f64 {
+        self.reading(|shown| {
+            library::read_frame(&self.frame, self.width, self.height, shown);
+        })
+    }
+
+    fn read_by_model(&self) -> f64 {
+        self.reading(|shown| {
+            let _ = MODEL.read_frame(&self.frame, self.width, self.height, shown);
+        })
+    }
+
+    fn writing(&self, write: impl Fn(&mut [u8])) -> f64 {
+        let mut out = vec![0; library::FRAME_MOST];
+        seconds(|| write(std::hint::black_box(&mut out)))
+    }
+
+    fn reading(&self, read: impl Fn(PairMut)) -> f64 {
+        let mut shown = self.previous.clone();
+        seconds(|| read(std::hint::black_box(&mut shown).work()))
     }
 }
 
@@ -137,7 +133,7 @@ fn noise_with_few_changes(width: usize, height: usize) -> Vec<u8> {
 
 /// Strokes on a plain ground, as letters have them.
 fn text(width: usize, height: usize) -> Vec<u8> {
-    let stroke = |x: usize, y: usize| u8::from(y % 12 < 8 && (x % 7 == 1 || (y % 4 == 0 && x % 7 < 5)));
+    let stroke = |x: usize, y: usize| u8::from(y % 12 < 8 && (x % 7 == 1 || (y.is_multiple_of(4) && x % 7 < 5)));
     (0..width * height).map(|at| stroke(at % width, at / width)).collect()
 }
 

@@ -1,0 +1,155 @@
+//! The four test programs that compare single calls, each with its families and what it must meet.
+
+use crate::model::{MAX_HEIGHT, MAX_WIDTH, PALETTE_BYTES};
+use crate::rng::Rng;
+use crate::runner::calls::{
+    AddCase, CheckCase, CheckTrailerCase, CloseCase, HeaderCase, ListCase, OpenCase, ReadCase, RewriteCase, StepCase,
+    WriteCase, WriteTrailerCase,
+};
+use crate::runner::command::fail;
+use crate::runner::compare::Comparer;
+use crate::runner::examples::{of_reading, of_reels, of_trailers, of_writing};
+use crate::runner::inputs::{listed, Case};
+use crate::runner::met::{AROUND, PLAY};
+use crate::runner::program::Program;
+use crate::states::State;
+use crate::write_cases::{REWRITE_FAMILIES, WRITE_FAMILIES};
+use crate::wrong::{seen_in_reading, seen_in_reels, seen_in_trailers, seen_in_writing};
+use crate::{cases, huge, reels, trailers};
+use flic_boundary::FRAME_MOST;
+
+pub fn reading() -> Program {
+    Program {
+        name: "reading",
+        unit: "frames",
+        base: 20_260,
+        families: listed(&cases::FAMILIES),
+        rows: vec![&ReadCase::ROW],
+        examples: of_reading(),
+        seen_wrongs: seen_in_reading,
+        besides: |_, _| {},
+    }
+}
+
+pub fn writing() -> Program {
+    Program {
+        name: "writing",
+        unit: "frames",
+        base: 20_261,
+        families: [listed(&WRITE_FAMILIES), listed(&REWRITE_FAMILIES)].concat(),
+        rows: vec![&WriteCase::ROW, &RewriteCase::ROW],
+        examples: of_writing(),
+        seen_wrongs: seen_in_writing,
+        besides: largest_picture,
+    }
+}
+
+pub fn reels() -> Program {
+    Program {
+        name: "reels",
+        unit: "calls",
+        base: 20_262,
+        families: listed(&reels::families::FAMILIES),
+        rows: vec![&CheckCase::ROW, &OpenCase::ROW, &AddCase::ROW, &CloseCase::ROW, &PLAY],
+        examples: of_reels(),
+        seen_wrongs: seen_in_reels,
+        besides: huge_reels,
+    }
+}
+
+pub fn trailers() -> Program {
+    Program {
+        name: "trailers",
+        unit: "calls",
+        base: 20_263,
+        families: listed(&trailers::families::FAMILIES),
+        rows: vec![
+            &CheckTrailerCase::ROW,
+            &WriteTrailerCase::ROW,
+            &ListCase::ROW,
+            &HeaderCase::ROW,
+            &StepCase::ROW,
+            &AROUND,
+        ],
+        examples: of_trailers(),
+        seen_wrongs: seen_in_trailers,
+        besides: huge_trailers,
+    }
+}
+
+/// The largest picture and every colour change to noise: an output of FLIC_FRAME_MOST bytes holds the frame.
+fn largest_picture(library: Comparer, base: u64) {
+    let mut rng = Rng::new(base);
+    let pixels = (MAX_WIDTH * MAX_HEIGHT) as usize;
+    let mut noise = || State { picture: rng.bytes(pixels), palette: rng.bytes(PALETTE_BYTES) };
+    let (previous, next) = (noise(), noise());
+    let out = vec![0xEE; FRAME_MOST];
+    let case = Case::Write(WriteCase { width: MAX_WIDTH, height: MAX_HEIGHT, previous, next, out });
+    match library.case(&case, base) {
+        Ok(agreed) if agreed.told.number == 0 => {
+            let length = agreed.told.length();
+            println!("writing: the largest picture of noise takes {length} of FLIC_FRAME_MOST bytes");
+        }
+        Ok(agreed) => {
+            let refused = format!("writing: the largest picture is refused {}", agreed.told.number);
+            fail(&refused, "raise FLIC_FRAME_MOST in include/flic.h, and the promise in docs/PROMISES.md with it")
+        }
+        Err(difference) => {
+            let differs = format!("writing: the largest picture differs from the model: {}", difference.what);
+            fail(&differs, "write this picture alone and follow the first byte that differs")
+        }
+    }
+}
+
+fn huge_reels(library: Comparer, _base: u64) {
+    around_32_bits("reels", "calls on sizes", huge::reels(library.subject));
+}
+
+fn huge_trailers(library: Comparer, _base: u64) {
+    around_32_bits("trailers", "files", huge::files(library.subject));
+}
+
+fn around_32_bits(program: &str, what: &str, compared: Result<Option<usize>, String>) {
+    match compared {
+        Ok(Some(number)) => println!("{program}: {number} {what} around 32 bits compared"),
+        Ok(None) => println!("{program}: {what} around 32 bits not tried: the system gives no four gigabytes of zeros"),
+        Err(difference) => fail(
+            &format!("{program}: a difference in {what} around 32 bits: {difference}"),
+            "make this call alone, on zeros that hold one frame from offset 128 to the record's end",
+        ),
+    }
+}
+
+#[cfg(test)]
+mod tests {
+    use super::*;
+    use crate::model::MODEL;
+    use crate::runner::guards::GuardBytes;
+    use crate::runner::met::Met;
+    use crate::runner::wrongs::unseen;
+
+    #[test]
+    fn everything_wrong_is_seen() {
+        for program in [reading(), writing(), reels(), trailers()] {
+            assert_eq!(unseen(&(program.seen_wrongs)(7)), Vec::<&str>::new());
+        }
+    }
+
+    #[test]
+    fn the_model_agrees_with_itself_and_meets_every_answer() {
+        let model = Comparer { subject: &MODEL, lender: &GuardBytes };
+        for program in [reading(), writing(), reels(), trailers()] {
+            let mut met = Met::nothing(&program.rows);
+            for family in &program.families {
+                for batch in 0..family.batches().div_ceil(20) {
+                    let seed = family.seed_of(7, batch);
+                    family.batch(seed, &mut |case| {
+                        let agreed = model.case(&case, seed).expect("the model agrees with itself");
+                        met.count(&case, &agreed);
+                    });
+                }
+            }
+            assert_eq!(met.missing(), Vec::<String>::new());
+        }
+    }
+}

@@ -1,0 +1,488 @@
+//! The twelve entry points, a row each: what a call is handed and lent, how it is made of the library and of the model,
+//! and what a run must meet.
+
+use super::lent::Lent;
+use super::told::Told;
+use crate::frames::KINDS;
+use crate::model::{kind, Model};
+use crate::states::State;
+use flic_boundary::{self as library, Pair, PairMut, Reel};
+
+/// What is the same for every call of an entry point.
+pub struct Row {
+    /// The function of include/flic.h, without its `flic_`.
+    pub function: &'static str,
+    /// What a run calls such a call, and what it counts by it.
+    pub name: &'static str,
+    pub unit: &'static str,
+    /// The slices that are lent, in the order of the function's arguments.
+    pub lends: &'static [&'static str],
+    /// The numbers that a run must meet, 0 being done.
+    pub numbers: &'static [u32],
+    /// The kinds that a run must meet in frames that were done, and what is said of these.
+    pub kinds: &'static [u16],
+    pub verb: &'static str,
+}
+
+/// One call.
+pub trait Call {
+    fn row(&self) -> &'static Row;
+
+    /// What is handed over besides slices, in words.
+    fn handed(&self) -> String {
+        String::new()
+    }
+
+    /// What the slices hold before the call.
+    fn slices(&self) -> Vec<&[u8]>;
+
+    /// The furthest place that a refusal can tell.
+    fn furthest(&self) -> u64 {
+        0
+    }
+
+    fn library(&self, lent: &mut Lent) -> Told;
+
+    fn model(&self, model: &Model, lent: &mut Lent) -> Told;
+
+    /// The frame whose kinds are counted, where the call is done and has left this in its slices.
+    fn frame<'a>(&'a self, _left: &'a [Vec<u8>]) -> Option<&'a [u8]> {
+        None
+    }
+}
+
+/// The call as it is made of the library and of the model, with the same slices in the same words.
+macro_rules! made {
+    ($self:ident, [$($slice:ident),*], $function:ident($($argument:expr),*)) => {
+        fn row(&$self) -> &'static Row {
+            &Self::ROW
+        }
+
+        fn library(&$self, lent: &mut Lent) -> Told {
+            let [$($slice),*] = lent.slices();
+            library::$function($($argument),*).into()
+        }
+
+        fn model(&$self, model: &Model, lent: &mut Lent) -> Told {
+            let [$($slice),*] = lent.slices();
+            model.$function($($argument),*).into()
+        }
+    };
+}
+
+/// The rows, in the order in which the damage test makes its calls.
+pub const ROWS: [&Row; 12] = [
+    &ReadCase::ROW,
+    &WriteCase::ROW,
+    &RewriteCase::ROW,
+    &CheckCase::ROW,
+    &OpenCase::ROW,
+    &AddCase::ROW,
+    &CloseCase::ROW,
+    &CheckTrailerCase::ROW,
+    &WriteTrailerCase::ROW,
+    &ListCase::ROW,
+    &HeaderCase::ROW,
+    &StepCase::ROW,
+];
+
+/// A row of which no kinds are counted.
+const PLAIN: Row = Row { function: "", name: "", unit: "", lends: &[], numbers: &[], kinds: &[], verb: "" };
+
+fn pair<'a>(picture: &'a [u8], palette: &'a [u8]) -> Pair<'a> {
+    Pair { picture, palette }
+}
+
+fn pair_mut<'a>(picture: &'a mut [u8], palette: &'a mut [u8]) -> PairMut<'a> {
+    PairMut { picture, palette }
+}
+
+/// flic_read_frame.
+#[derive(Clone, Debug, PartialEq, Eq)]
+pub struct ReadCase {
+    pub bytes: Vec<u8>,
+    pub width: u64,
+    pub height: u64,
+    pub shown: State,
+}
+
+impl ReadCase {
+    pub const ROW: Row = Row {
+        function: "read_frame",
+        name: "reading",
+        unit: "frames",
+        lends: &["frame", "picture", "palette"],
+        numbers: &[0, 1, 2, 4, 5, 6, 7, 8, 9, 10, 11, 12, 13],
+        kinds: &KINDS,
+        verb: "accepted",
+    };
+}
+
+impl Call for ReadCase {
+    made!(self, [bytes, picture, palette], read_frame(bytes, self.width, self.height, pair_mut(picture, palette)));
+
+    fn handed(&self) -> String {
+        format!("{} by {}", self.width, self.height)
+    }
+
+    fn slices(&self) -> Vec<&[u8]> {
+        vec![&self.bytes, &self.shown.picture, &self.shown.palette]
+    }
+
+    fn furthest(&self) -> u64 {
+        self.bytes.len() as u64
+    }
+
+    fn frame<'a>(&'a self, _left: &'a [Vec<u8>]) -> Option<&'a [u8]> {
+        Some(&self.bytes)
+    }
+}
+
+/// flic_write_frame.
+#[derive(Clone, Debug, PartialEq, Eq)]
+pub struct WriteCase {
+    pub width: u64,
+    pub height: u64,
+    pub previous: State,
+    pub next: State,
+    pub out: Vec<u8>,
+}
+
+impl WriteCase {
+    pub const ROW: Row = Row {
+        function: "write_frame",
+        name: "writing",
+        unit: "frames",
+        lends: &["previous picture", "previous palette", "next picture", "next palette", "output"],
+        numbers: &[0, 1, 2, 3],
+        kinds: &[kind::COLOR256, kind::SS2, kind::BLACK, kind::BRUN, kind::COPY],
+        verb: "written",
+    };
+}
+
+impl Call for WriteCase {
+    made!(self, [p, q, n, m, out], write_frame(self.width, self.height, pair(p, q), pair(n, m), out));
+
+    fn handed(&self) -> String {
+        format!("{} by {}", self.width, self.height)
+    }
+
+    fn slices(&self) -> Vec<&[u8]> {
+        let (previous, next) = (&self.previous, &self.next);
+        vec![&previous.picture, &previous.palette, &next.picture, &next.palette, &self.out]
+    }
+
+    fn frame<'a>(&'a self, left: &'a [Vec<u8>]) -> Option<&'a [u8]> {
+        Some(&left[4])
+    }
+}
+
+/// flic_rewrite_frame.
+#[derive(Clone, Debug, PartialEq, Eq)]
+pub struct RewriteCase {
+    pub bytes: Vec<u8>,
+    pub width: u64,
+    pub height: u64,
+    pub previous: State,
+    pub work: State,
+    pub out: Vec<u8>,
+}
+
+impl RewriteCase {
+    pub const ROW: Row = Row {
+        function: "rewrite_frame",
+        name: "rewriting",
+        unit: "frames",
+        lends: &["frame", "previous picture", "previous palette", "working picture", "working palette", "output"],
+        numbers: &[0, 1, 2, 3, 4, 5, 6, 7, 8, 9, 10, 11, 12, 13],
+        kinds: &KINDS,
+        verb: "rewritten",
+    };
+}
+
+impl Call for RewriteCase {
+    made!(
+        self,
+        [bytes, p, q, w, v, out],
+        rewrite_frame(bytes, self.width, self.height, pair(p, q), pair_mut(w, v), out)
+    );
+
+    fn handed(&self) -> String {
+        format!("{} by {}", self.width, self.height)
+    }
+
+    fn slices(&self) -> Vec<&[u8]> {
+        let (previous, work) = (&self.previous, &self.work);
+        vec![&self.bytes, &previous.picture, &previous.palette, &work.picture, &work.palette, &self.out]
+    }
+
+    fn furthest(&self) -> u64 {
+        self.bytes.len() as u64
+    }
+
+    fn frame<'a>(&'a self, _left: &'a [Vec<u8>]) -> Option<&'a [u8]> {
+        Some(&self.bytes)
+    }
+}
+
+/// What is lent with a reel that is checked or closed.
+const REEL_AND_PAIRS: &[&str] = &["reel", "first picture", "first palette", "second picture", "second palette"];
+
+/// flic_check_reel.
+#[derive(Clone, Debug, PartialEq, Eq)]
+pub struct CheckCase {
+    pub bytes: Vec<u8>,
+    pub first: State,
+    pub second: State,
+}
+
+impl CheckCase {
+    pub const ROW: Row = Row {
+        function: "check_reel",
+        name: "check",
+        unit: "reels",
+        lends: REEL_AND_PAIRS,
+        numbers: &[0, 1, 2, 4, 5, 6, 7, 8, 9, 10, 11, 12, 13, 14, 15, 16],
+        ..PLAIN
+    };
+}
+
+impl Call for CheckCase {
+    made!(self, [bytes, p, q, n, m], check_reel(bytes, pair_mut(p, q), pair_mut(n, m)));
+
+    fn slices(&self) -> Vec<&[u8]> {
+        let (first, second) = (&self.first, &self.second);
+        vec![&self.bytes, &first.picture, &first.palette, &second.picture, &second.palette]
+    }
+
+    fn furthest(&self) -> u64 {
+        self.bytes.len() as u64
+    }
+}
+
+/// flic_open_reel.
+#[derive(Clone, Debug, PartialEq, Eq)]
+pub struct OpenCase {
+    pub width: u64,
+    pub height: u64,
+    pub speed: u32,
+    pub bytes: Vec<u8>,
+}
+
+impl OpenCase {
+    pub const ROW: Row =
+        Row { function: "open_reel", name: "open", unit: "reels", lends: &["reel"], numbers: &[0, 2, 3], ..PLAIN };
+}
+
+impl Call for OpenCase {
+    made!(self, [bytes], open_reel(self.width, self.height, self.speed, bytes));
+
+    fn handed(&self) -> String {
+        format!("{} by {}, speed {}", self.width, self.height, self.speed)
+    }
+
+    fn slices(&self) -> Vec<&[u8]> {
+        vec![&self.bytes]
+    }
+}
+
+/// flic_add_frame.
+#[derive(Clone, Debug, PartialEq, Eq)]
+pub struct AddCase {
+    pub reel: Reel,
+    pub bytes: Vec<u8>,
+    pub shown: State,
+    pub next: State,
+}
+
+impl AddCase {
+    pub const ROW: Row = Row {
+        function: "add_frame",
+        name: "add",
+        unit: "frames",
+        lends: &["reel", "showing picture", "showing palette", "next picture", "next palette"],
+        numbers: &[0, 1, 2, 3, 4, 18],
+        ..PLAIN
+    };
+}
+
+impl Call for AddCase {
+    made!(self, [bytes, p, q, n, m], add_frame(self.reel, bytes, pair(p, q), pair(n, m)));
+
+    fn handed(&self) -> String {
+        format!("{:?}", self.reel)
+    }
+
+    fn slices(&self) -> Vec<&[u8]> {
+        let (shown, next) = (&self.shown, &self.next);
+        vec![&self.bytes, &shown.picture, &shown.palette, &next.picture, &next.palette]
+    }
+}
+
+/// flic_close_reel.
+#[derive(Clone, Debug, PartialEq, Eq)]
+pub struct CloseCase {
+    pub reel: Reel,
+    pub bytes: Vec<u8>,
+    pub first: State,
+    pub second: State,
+}
+
+impl CloseCase {
+    pub const ROW: Row = Row {
+        function: "close_reel",
+        name: "close",
+        unit: "reels",
+        lends: REEL_AND_PAIRS,
+        numbers: &[0, 1, 2, 3, 4, 5, 6, 7, 8, 9, 10, 11, 12, 13, 18],
+        ..PLAIN
+    };
+}
+
+impl Call for CloseCase {
+    made!(self, [bytes, p, q, n, m], close_reel(self.reel, bytes, pair_mut(p, q), pair_mut(n, m)));
+
+    fn handed(&self) -> String {
+        format!("{:?}", self.reel)
+    }
+
+    fn slices(&self) -> Vec<&[u8]> {
+        let (first, second) = (&self.first, &self.second);
+        vec![&self.bytes, &first.picture, &first.palette, &second.picture, &second.palette]
+    }
+
+    fn furthest(&self) -> u64 {
+        self.bytes.len() as u64
+    }
+}
+
+/// flic_check_trailer, of a file.
+#[derive(Clone, Debug, PartialEq, Eq)]
+pub struct CheckTrailerCase(pub Vec<u8>);
+
+impl CheckTrailerCase {
+    pub const ROW: Row = Row {
+        function: "check_trailer",
+        name: "check of a trailer",
+        unit: "files",
+        lends: &["file"],
+        numbers: &[0, 2, 4, 5, 6, 14, 15, 17],
+        ..PLAIN
+    };
+}
+
+impl Call for CheckTrailerCase {
+    made!(self, [bytes], check_trailer(bytes));
+
+    fn slices(&self) -> Vec<&[u8]> {
+        vec![&self.0]
+    }
+
+    fn furthest(&self) -> u64 {
+        self.0.len() as u64
+    }
+}
+
+/// flic_write_trailer, into a file.
+#[derive(Clone, Debug, PartialEq, Eq)]
+pub struct WriteTrailerCase(pub Vec<u8>);
+
+impl WriteTrailerCase {
+    pub const ROW: Row = Row {
+        function: "write_trailer",
+        name: "writing of a trailer",
+        unit: "files",
+        lends: &["file"],
+        numbers: &[0, 2, 3, 4, 5, 6, 14, 15],
+        ..PLAIN
+    };
+}
+
+impl Call for WriteTrailerCase {
+    made!(self, [bytes], write_trailer(bytes));
+
+    fn slices(&self) -> Vec<&[u8]> {
+        vec![&self.0]
+    }
+
+    fn furthest(&self) -> u64 {
+        self.0.len() as u64
+    }
+}
+
+/// flic_list.
+#[derive(Clone, Debug, PartialEq, Eq)]
+pub struct ListCase {
+    pub bytes: Vec<u8>,
+    pub out: Vec<u8>,
+}
+
+impl ListCase {
+    pub const ROW: Row =
+        Row { function: "list", name: "list", unit: "calls", lends: &["file", "output"], numbers: &[0, 3], ..PLAIN };
+}
+
+impl Call for ListCase {
+    made!(self, [bytes, out], list(bytes, out));
+
+    fn slices(&self) -> Vec<&[u8]> {
+        vec![&self.bytes, &self.out]
+    }
+}
+
+/// flic_read_header, of a file.
+#[derive(Clone, Debug, PartialEq, Eq)]
+pub struct HeaderCase(pub Vec<u8>);
+
+impl HeaderCase {
+    pub const ROW: Row = Row {
+        function: "read_header",
+        name: "reading of a header",
+        unit: "files",
+        lends: &["file"],
+        numbers: &[0, 2, 4, 5, 6, 14],
+        ..PLAIN
+    };
+}
+
+impl Call for HeaderCase {
+    made!(self, [bytes], read_header(bytes));
+
+    fn slices(&self) -> Vec<&[u8]> {
+        vec![&self.0]
+    }
+}
+
+/// flic_next_frame.
+#[derive(Clone, Debug, PartialEq, Eq)]
+pub struct StepCase {
+    pub bytes: Vec<u8>,
+    pub at: u64,
+}
+
+impl StepCase {
+    pub const ROW: Row = Row {
+        function: "next_frame",
+        name: "step to the next frame",
+        unit: "steps",
+        lends: &["reel"],
+        numbers: &[0, 4, 6, 15],
+        ..PLAIN
+    };
+}
+
+impl Call for StepCase {
+    made!(self, [bytes], next_frame(bytes, self.at));
+
+    fn handed(&self) -> String {
+        format!("from offset {}", self.at)
+    }
+
+    fn slices(&self) -> Vec<&[u8]> {
+        vec![&self.bytes]
+    }
+
+    fn furthest(&self) -> u64 {
+        self.at.max(self.bytes.len() as u64)
+    }
+}

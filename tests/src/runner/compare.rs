@@ -1,0 +1,216 @@
+//! Compares one call with the model: the answer, every lent byte, and what stands around them; then the cases that are
+//! more than a call.
+
+use super::calls::{Call, CheckCase, ReadCase, RewriteCase, WriteCase, WriteTrailerCase};
+use super::inputs::{AroundCase, Case, PlayCase};
+use super::lent::{Left, Lender, Lent};
+use super::told::{Rest, Told};
+use crate::model::{field, size_at, Model, MODEL, PALETTE_BYTES};
+use crate::states::State;
+
+/// Something that does as the library should.
+pub trait Subject {
+    fn call(&self, call: &dyn Call, lent: &mut Lent) -> Told;
+}
+
+pub struct Library;
+
+impl Subject for Library {
+    fn call(&self, call: &dyn Call, lent: &mut Lent) -> Told {
+        call.library(lent)
+    }
+}
+
+impl Subject for Model {
+    fn call(&self, call: &dyn Call, lent: &mut Lent) -> Told {
+        call.model(self, lent)
+    }
+}
+
+/// Where the library and the model part, and what each of them answered.
+#[derive(Debug)]
+pub struct Difference {
+    pub library: String,
+    pub model: String,
+    pub what: String,
+}
+
+/// What the subject and the model both say and leave.
+pub struct Agreed {
+    pub told: Told,
+    pub left: Vec<Vec<u8>>,
+}
+
+/// Something that stands in for the library or is it, and the way in which it is lent slices.
+#[derive(Clone, Copy)]
+pub struct Comparer<'a> {
+    pub subject: &'a dyn Subject,
+    pub lender: &'a dyn Lender,
+}
+
+impl Comparer<'_> {
+    /// What the subject says and leaves.
+    pub fn made(&self, call: &dyn Call, seed: u64) -> (Told, Left) {
+        let mut told = None;
+        let left = self.lender.lend(&call.slices(), seed, &mut |lent| told = Some(self.subject.call(call, lent)));
+        (told.expect("a call is made while its slices are lent"), left)
+    }
+
+    /// Makes one call of the subject and of the model.
+    pub fn call(&self, call: &dyn Call, seed: u64) -> Result<Agreed, Difference> {
+        let (found, left) = self.made(call, seed);
+        let mut wanted_left: Vec<Vec<u8>> = call.slices().iter().map(|slice| slice.to_vec()).collect();
+        let wanted = MODEL.call(call, &mut Lent::of(&mut wanted_left));
+        require(found == wanted, || first_line(call, &found, &left, &wanted, &wanted_left))
+            .and_then(|()| require(found.place <= call.furthest(), || "the place lies past what was lent".to_string()))
+            .and_then(|()| check_left(call.row().lends, &left, &wanted_left))
+            .map_err(|what| difference(found, wanted, what))?;
+        Ok(Agreed { told: found, left: wanted_left })
+    }
+
+    /// Makes the calls of a case, and gives the number with which it is counted.
+    pub fn case(&self, case: &Case, seed: u64) -> Result<Agreed, Difference> {
+        match case {
+            Case::Write(case) => self.write(case, seed),
+            Case::Rewrite(case) => self.rewrite(case, seed),
+            Case::Play(case) => self.play(case, seed),
+            Case::Around(AroundCase(case)) => self.around(case, seed),
+            _ => self.call(case.call().expect("all other cases are one call"), seed),
+        }
+    }
+
+    /// Writes, and reads what was written.
+    fn write(&self, case: &WriteCase, seed: u64) -> Result<Agreed, Difference> {
+        let agreed = self.call(case, seed)?;
+        if agreed.told.number == 0 {
+            let bytes = agreed.left[4][..agreed.told.length() as usize].to_vec();
+            let written = ReadCase { bytes, width: case.width, height: case.height, shown: case.previous.clone() };
+            self.read_back(&written, &case.next, seed)?;
+        }
+        Ok(agreed)
+    }
+
+    /// Rewrites, reads what was written, and rewrites it once more.
+    fn rewrite(&self, case: &RewriteCase, seed: u64) -> Result<Agreed, Difference> {
+        let once = self.call(case, seed)?;
+        if once.told.number == 0 {
+            let bytes = once.left[5][..once.told.length() as usize].to_vec();
+            let again = RewriteCase { bytes: bytes.clone(), ..case.clone() };
+            let written = ReadCase { bytes, width: case.width, height: case.height, shown: case.previous.clone() };
+            let work = State { picture: once.left[3].clone(), palette: once.left[4].clone() };
+            self.read_back(&written, &work, seed)?;
+            let twice = self.call(&again, seed)?;
+            check_content("frame rewritten twice", &twice.left[5], &once.left[5])
+                .map_err(|what| difference(twice.told, once.told, what))?;
+        }
+        Ok(once)
+    }
+
+    /// The subject's reading of a frame that was written must give the next state from the previous one.
+    fn read_back(&self, case: &ReadCase, next: &State, seed: u64) -> Result<(), Difference> {
+        let (found, left) = self.made(case, seed);
+        let wanted = Told::done(Rest::Nothing);
+        let pixels = (case.width * case.height) as usize;
+        require(found == wanted, || "the answer".to_string())
+            .and_then(|()| check_content("picture read back", &left.slices[1][..pixels], &next.picture[..pixels]))
+            .and_then(|()| {
+                let (read, wanted) = (&left.slices[2][..PALETTE_BYTES], &next.palette[..PALETTE_BYTES]);
+                check_content("palette read back", read, wanted)
+            })
+            .map_err(|what| difference(found, wanted, what))
+    }
+
+    /// Plays a reel three laps as a board does: from oframe1 to the ring, and from oframe2 to the ring in each further
+    /// lap.
+    fn play(&self, case: &PlayCase, seed: u64) -> Result<Agreed, Difference> {
+        let frames = case.states.len();
+        let mut shown = State::blank(case.width * case.height);
+        for lap in 0..3 {
+            let (from, field) = if lap == 0 { (0, field::OFRAME1) } else { (1, field::OFRAME2) };
+            let mut place = size_at(&case.bytes, field);
+            for frame in from..=frames {
+                let chunk = &case.bytes[place..place + size_at(&case.bytes, place)];
+                let next = &case.states[frame % frames];
+                let (width, height) = (case.width as u64, case.height as u64);
+                let reading = ReadCase { bytes: chunk.to_vec(), width, height, shown };
+                self.read_back(&reading, next, seed).map_err(|difference| Difference {
+                    what: format!("lap {}, frame {} at {place}: {}", lap + 1, frame + 1, difference.what),
+                    ..difference
+                })?;
+                shown = next.clone();
+                place += chunk.len();
+            }
+        }
+        Ok(Agreed { told: Told::done(Rest::Nothing), left: Vec::new() })
+    }
+
+    /// Checks a whole reel, writes its trailer, and checks it again: where a trailer is written, the check says the same.
+    fn around(&self, case: &CheckCase, seed: u64) -> Result<Agreed, Difference> {
+        let (before, left_before) = self.made(case, seed);
+        let written = self.call(&WriteTrailerCase(case.bytes.clone()), seed)?;
+        if written.told.number == 0 {
+            let bytes = written.left[0][..written.told.length() as usize].to_vec();
+            let (after, left) = self.made(&CheckCase { bytes, ..case.clone() }, seed);
+            let pairs = |left: &Left| left.slices[1..].to_vec();
+            require(after == before && pairs(&left) == pairs(&left_before), || {
+                "the check after the trailer was written (library) and before (model), or what they left".to_string()
+            })
+            .map_err(|what| difference(after, before, what))?;
+        }
+        Ok(Agreed { told: before, left: Vec::new() })
+    }
+}
+
+fn difference(found: Told, wanted: Told, what: String) -> Difference {
+    Difference { library: format!("{found:?}"), model: format!("{wanted:?}"), what }
+}
+
+fn require(holds: bool, what: impl FnOnce() -> String) -> Result<(), String> {
+    if holds {
+        Ok(())
+    } else {
+        Err(what())
+    }
+}
+
+/// The lent slices must hold what the model says, and nothing may be written beside them.
+fn check_left(names: &[&str], left: &Left, wanted: &[Vec<u8>]) -> Result<(), String> {
+    for ((name, found), wanted) in names.iter().zip(&left.slices).zip(wanted) {
+        check_content(name, found, wanted)?;
+    }
+    match left.trespass {
+        Some(which) => Err(format!("the {}: a byte outside the lent slice was written", names[which])),
+        None => Ok(()),
+    }
+}
+
+/// The first byte in which two slices of one length differ.
+fn check_content(name: &str, found: &[u8], wanted: &[u8]) -> Result<(), String> {
+    assert_eq!(found.len(), wanted.len(), "{name}: a comparison takes slices of one length");
+    require(found == wanted, || {
+        let at = found.iter().zip(wanted).take_while(|(a, b)| a == b).count();
+        let (library, model) = (found[at], wanted[at]);
+        format!("the {name}, byte {at} of {}: library {library:#04x}, model {model:#04x}", wanted.len())
+    })
+}
+
+/// Where answers differ: they do, or of listings the first line that does.
+fn first_line(call: &dyn Call, found: &Told, left: &Left, wanted: &Told, wanted_left: &[Vec<u8>]) -> String {
+    if call.row().function != "list" || found.number != wanted.number {
+        return "the answer".to_string();
+    }
+    let text = |told: &Told, out: &[u8]| {
+        let length = usize::try_from(told.length()).map_or(out.len(), |length| length.min(out.len()));
+        String::from_utf8_lossy(&out[..length]).into_owned()
+    };
+    let (library, model) = (text(found, &left.slices[1]), text(wanted, &wanted_left[1]));
+    let (mut library, mut model) = (library.split_inclusive('\n'), model.split_inclusive('\n'));
+    for line in 1.. {
+        match (library.next(), model.next()) {
+            (None, None) => break,
+            (a, b) if a != b => return format!("line {line}: library {a:?}, model {b:?}"),
+            _ => {}
+        }
+    }
+    "the length".to_string()
+}

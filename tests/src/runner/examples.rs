@@ -1,0 +1,200 @@
+//! Document 01's numbers to try, as calls with their answers and all that they leave.
+
+use super::calls::{
+    AddCase, Call, CheckCase, CheckTrailerCase, CloseCase, HeaderCase, ListCase, OpenCase, ReadCase, StepCase,
+    WriteCase, WriteTrailerCase,
+};
+use super::compare::Comparer;
+use super::program::hex;
+use super::told::{Rest, Told};
+use crate::frames::{frame_of, Chunk};
+use crate::model::{kind, PALETTE_BYTES};
+use crate::reels::examples::{blank_reel, zero_until_close, SPEED};
+use crate::states::State;
+use crate::trailers::examples::{BLANK_LISTING, BLANK_TRAILER};
+use flic_boundary::Reel;
+
+/// A call, its answer, and what it leaves in its slices.
+pub struct Example {
+    name: &'static str,
+    call: Box<dyn Call>,
+    told: Told,
+    left: Vec<Vec<u8>>,
+}
+
+impl Example {
+    /// A call that is done and leaves its slices as they were, but for those with other content.
+    fn done(name: &'static str, call: impl Call + 'static, rest: Rest, changed: &[(usize, Vec<u8>)]) -> Example {
+        let mut left: Vec<Vec<u8>> = call.slices().iter().map(|slice| slice.to_vec()).collect();
+        for (which, content) in changed {
+            left[*which] = content.clone();
+        }
+        Example { name, call: Box::new(call), told: Told::done(rest), left }
+    }
+
+    fn refused(self, number: u32, place: u64) -> Example {
+        Example { told: Told { number, place, ..self.told }, ..self }
+    }
+}
+
+/// In what an example goes astray, if it does.
+pub fn astray(example: &Example, comparer: Comparer, seed: u64) -> Option<String> {
+    let (told, left) = comparer.made(&*example.call, seed);
+    if told == example.told && left.slices == example.left && left.trespass.is_none() {
+        return None;
+    }
+    let slices = |slices: &[Vec<u8>]| slices.iter().map(|slice| hex(slice)).collect::<Vec<_>>().join(" ");
+    let function = example.call.row().function;
+    Some(format!(
+        "document 01's example '{}' is otherwise in flic_{function}\n  lent:   {}\n  found:  {told:?}, {}\n  wanted: {:?}, {}",
+        example.name,
+        example.call.slices().iter().map(|slice| hex(slice)).collect::<Vec<_>>().join(" "),
+        slices(&left.slices),
+        example.told,
+        slices(&example.left),
+    ))
+}
+
+const FILL: u8 = 0x77;
+
+/// A frame read against FILL everywhere, which gives this picture.
+fn read_gives(name: &'static str, bytes: Vec<u8>, width: usize, picture: &[u8]) -> Example {
+    let shown = State { picture: vec![FILL; picture.len()], palette: vec![FILL; PALETTE_BYTES] };
+    let case = ReadCase { bytes, width: width as u64, height: (picture.len() / width) as u64, shown };
+    Example::done(name, case, Rest::Nothing, &[(1, picture.to_vec())])
+}
+
+/// The same of a frame of one sub-chunk, for a picture of one row.
+fn body_gives(name: &'static str, kind: u16, body: &[u8], picture: &[u8]) -> Example {
+    read_gives(name, frame_of(&[Chunk { kind, body: body.to_vec() }]), picture.len(), picture)
+}
+
+const FOUR_BY_TWO: [u8; 28] =
+    [0x1C, 0, 0, 0, 0xFA, 0xF1, 1, 0, 0, 0, 0, 0, 0, 0, 0, 0, 0x0C, 0, 0, 0, 0x0F, 0, 1, 4, 0, 1, 4, 5];
+
+pub fn of_reading() -> Vec<Example> {
+    let mut columns_10_and_11 = [FILL; 100];
+    columns_10_and_11[10..12].fill(0);
+    let mut last_colour = body_gives("skip 255 count 1", kind::COLOR256, &[1, 0, 255, 1, 1, 2, 3], &[FILL]);
+    last_colour.left[2][PALETTE_BYTES - 3..].copy_from_slice(&[1, 2, 3]);
+    let past = &[1, 0, 255, 2, 1, 2, 3, 4, 5, 6];
+    vec![
+        body_gives("1 1 2", kind::BRUN, &[2, 2, 1, 1, 2], &[1, 1, 2]),
+        body_gives("1 2 2 3", kind::BRUN, &[1, 0xFC, 1, 2, 2, 3], &[1, 2, 2, 3]),
+        body_gives("130 nines", kind::BRUN, &[2, 0x7F, 9, 3, 9], &[9; 130]),
+        read_gives("4 by 2", FOUR_BY_TWO.to_vec(), 4, &[0, 0, 0, 0, 5, 5, 5, 5]),
+        body_gives("2 by 1, COPY", kind::COPY, &[1, 2], &[1, 2]),
+        read_gives("no change", frame_of(&[]), 4, &[FILL; 8]),
+        body_gives("columns 10 and 11", kind::SS2, &[1, 0, 1, 0, 0x0A, 1, 0, 0], &columns_10_and_11),
+        body_gives("last pixel, width 5", kind::SS2, &[1, 0, 9, 0x80, 0, 0], &[FILL, FILL, FILL, FILL, 9]),
+        last_colour,
+        body_gives("skip 255 count 2", kind::COLOR256, past, &[FILL]).refused(12, 16),
+        body_gives("row skip FF FF, height 1", kind::SS2, &[1, 0, 0xFF, 0xFF, 0, 0], &[FILL]).refused(10, 16),
+    ]
+}
+
+/// Two pictures and the sub-chunk of the frame between them, if there is one.
+fn write_gives(name: &'static str, width: usize, previous: &[u8], next: &[u8], chunks: &[Chunk]) -> Example {
+    let state = |picture: &[u8]| State { picture: picture.to_vec(), palette: vec![0; PALETTE_BYTES] };
+    let (previous, next, out) = (state(previous), state(next), vec![0xEE; 1000]);
+    let height = (next.picture.len() / width) as u64;
+    let frame = frame_of(chunks);
+    let left = [&frame[..], &out[frame.len()..]].concat();
+    let case = WriteCase { width: width as u64, height, previous, next, out };
+    Example::done(name, case, Rest::Length(frame.len() as u64), &[(4, left)])
+}
+
+/// Rows that BRUN packs best, coming after a picture of which no pixel stays.
+fn rows_give(name: &'static str, rows: &[&[u8]], brun_body: &[u8]) -> Example {
+    let next = rows.concat();
+    let chunk = Chunk { kind: kind::BRUN, body: brun_body.to_vec() };
+    write_gives(name, rows[0].len(), &vec![0xEE; next.len()], &next, &[chunk])
+}
+
+pub fn of_writing() -> Vec<Example> {
+    let no_neighbours_equal: Vec<u8> = (0..129).collect();
+    let slope: Vec<u8> = (0..100).collect();
+    let mut columns_10_and_11 = slope.clone();
+    columns_10_and_11[10..12].fill(0);
+    let of = |kind, body: &[u8]| [Chunk { kind, body: body.to_vec() }];
+    let (brun, delta) = (of(kind::BRUN, &FOUR_BY_TWO[22..]), of(kind::SS2, &[1, 0, 1, 0, 0x0A, 1, 0, 0]));
+    vec![
+        write_gives("4 by 2, blank to rows of 0 and 5", 4, &[0; 8], &[0, 0, 0, 0, 5, 5, 5, 5], &brun),
+        write_gives("2 by 1, 0 0 to 1 2", 2, &[0, 0], &[1, 2], &of(kind::COPY, &[1, 2])),
+        write_gives("no change", 2, &[1, 2], &[1, 2], &[]),
+        write_gives("100 by 1, columns 10 and 11 to 0", 100, &slope, &columns_10_and_11, &delta),
+        rows_give("130 nines", &[&[9; 130]], &[2, 0x7F, 9, 3, 9]),
+        rows_give(
+            "1 2 2 3, above rows of 5",
+            &[&[1, 2, 2, 3], &[5; 4], &[5; 4], &[5; 4]],
+            &[1, 0xFC, 1, 2, 2, 3, 1, 4, 5, 1, 4, 5, 1, 4, 5],
+        ),
+        rows_give(
+            "129 pixels, no neighbours equal, above a row of 5",
+            &[&no_neighbours_equal, &[5; 129]],
+            &[&[2, 1, 0, 0x80], &no_neighbours_equal[1..], &[2, 0x7F, 5, 2, 5]].concat(),
+        ),
+    ]
+}
+
+/// The blank reel of 1 by 1: opened, added to, closed and checked.
+pub fn of_reels() -> Vec<Example> {
+    let whole = blank_reel();
+    let blank = || State::blank(1);
+    let lent = vec![0xEE; whole.len()];
+    let mut open = lent.clone();
+    (0..128).for_each(|at| open[at] = if zero_until_close(at) { 0 } else { whole[at] });
+    let added = [&open[..128], &whole[128..144], &lent[144..]].concat();
+    let record = |frames, end, closed| Reel { width: 1, height: 1, frames, end, closed };
+    let rest = |frames, end, closed| Rest::Record(record(frames, end, closed));
+    let open_case = OpenCase { width: 1, height: 1, speed: SPEED, bytes: lent };
+    let add = AddCase { reel: record(0, 128, 0), bytes: open.clone(), shown: blank(), next: blank() };
+    let close = CloseCase { reel: record(1, 144, 0), bytes: added.clone(), first: blank(), second: blank() };
+    let check = CheckCase { bytes: whole.clone(), first: blank(), second: blank() };
+    vec![
+        Example::done("1 by 1 blank reel, opened", open_case, rest(0, 128, 0), &[(0, open)]),
+        Example::done("1 by 1 blank reel, added to", add, rest(1, 144, 0), &[(0, added)]),
+        Example::done("1 by 1 blank reel, closed", close, rest(1, 160, 1), &[(0, whole)]),
+        Example::done("1 by 1 blank reel, checked", check, Rest::Nothing, &[]),
+    ]
+}
+
+/// The blank reel's trailer and listing, its header and its frames.
+pub fn of_trailers() -> Vec<Example> {
+    let reel = blank_reel();
+    let whole = [&reel[..], &BLANK_TRAILER].concat();
+    let room = WriteTrailerCase([&reel[..], &[0xEE; BLANK_TRAILER.len()]].concat());
+    let list = ListCase { bytes: whole.clone(), out: vec![0xEE; BLANK_LISTING.len()] };
+    let text = BLANK_LISTING.as_bytes().to_vec();
+    let header = Rest::Header { width: 1, height: 1, frames: 1, size: 160, speed: SPEED };
+    let step = |at, from, end| {
+        Example::done("blank reel's frames", StepCase { bytes: reel.clone(), at }, Rest::Span { from, end }, &[])
+    };
+    vec![
+        Example::done("no trailer", CheckTrailerCase(reel.clone()), Rest::Nothing, &[]),
+        Example::done("blank reel's trailer", room, Rest::Length(176), &[(0, whole.clone())]),
+        Example::done("a trailer", CheckTrailerCase(whole), Rest::Nothing, &[]),
+        Example::done("blank reel's listing", list, Rest::Length(text.len() as u64), &[(1, text)]),
+        Example::done("blank reel's header", HeaderCase(reel.clone()), header, &[]),
+        step(128, 128, 144),
+        step(144, 144, 160),
+        step(160, 0, 0).refused(15, 160),
+    ]
+}
+
+#[cfg(test)]
+mod tests {
+    use super::*;
+    use crate::model::MODEL;
+    use crate::runner::guards::GuardBytes;
+
+    #[test]
+    fn the_model_does_as_document_01_says() {
+        let comparer = Comparer { subject: &MODEL, lender: &GuardBytes };
+        for examples in [of_reading(), of_writing(), of_reels(), of_trailers()] {
+            for example in examples {
+                assert_eq!(astray(&example, comparer, 1), None);
+            }
+        }
+    }
+}

@@ -1,0 +1,147 @@
+//! What a run has met: answers, call by call, the kinds of frames, and the lines of listings; and what it should have
+//! met and didn't.
+
+use super::calls::Row;
+use super::compare::Agreed;
+use super::inputs::Case;
+use crate::frames::{is_known, UNKNOWN};
+use crate::model::{size_at, word_at, FRAME_HEADER, MOST_DEPTH};
+use std::collections::BTreeMap;
+
+const PROGRESS: u64 = 20_000;
+
+/// A row for cases that are more than a call, and for what a listing's only or first line tells.
+const fn besides(name: &'static str, unit: &'static str, numbers: &'static [u32]) -> Row {
+    Row { function: name, name, unit, lends: &[], numbers, kinds: &[], verb: "" }
+}
+
+/// Reels that were played.
+pub const PLAY: Row = besides("play", "reels of three laps", &[0]);
+/// A whole-reel check before and after a trailer was written: done, damaged in several ways, astray.
+pub const AROUND: Row = besides("check of a reel before and after its trailer", "reels", &[0, 4, 7, 9, 16]);
+/// Whole listings: one that ends with `ok` is 0, a line `refused N PLACE` is N.
+pub const LISTING: Row = besides("listing", "texts", &[0, 2, 3, 4, 5, 6, 14, 15]);
+
+struct Tally {
+    row: &'static Row,
+    calls: u64,
+    numbers: BTreeMap<u32, u64>,
+    kinds: BTreeMap<u16, u64>,
+}
+
+impl Tally {
+    fn count(&mut self, number: u32) {
+        self.calls += 1;
+        *self.numbers.entry(number).or_default() += 1;
+        if self.calls.is_multiple_of(PROGRESS) {
+            println!("{}: {} {} so far", self.row.name, self.calls, self.row.unit);
+        }
+    }
+
+    fn print(&self) {
+        println!("{}: {} {}", self.row.name, self.calls, self.row.unit);
+        for (number, times) in &self.numbers {
+            match number {
+                0 => println!("  done       {times}"),
+                _ => println!("  refused {number:2} {times}"),
+            }
+        }
+        for (kind, times) in &self.kinds {
+            match *kind {
+                UNKNOWN => println!("  {} with an unknown kind {times}", self.row.verb),
+                _ => println!("  {} with kind {kind:2} {times}", self.row.verb),
+            }
+        }
+    }
+}
+
+/// What a run must meet, by the rows of its calls.
+pub struct Met {
+    tallies: Vec<Tally>,
+    listings: Tally,
+    /// How many lines of each depth were listed.
+    depths: [u64; MOST_DEPTH + 1],
+}
+
+impl Met {
+    pub fn nothing(rows: &[&'static Row]) -> Met {
+        let tally = |row| Tally { row, calls: 0, numbers: BTreeMap::new(), kinds: BTreeMap::new() };
+        let tallies = rows.iter().map(|row| tally(*row)).collect();
+        Met { tallies, listings: tally(&LISTING), depths: [0; MOST_DEPTH + 1] }
+    }
+
+    pub fn count(&mut self, case: &Case, agreed: &Agreed) {
+        let row = match case {
+            Case::Play(_) => &PLAY,
+            Case::Around(_) => &AROUND,
+            _ => case.call().expect("all other cases are one call").row(),
+        };
+        let tally = self.tallies.iter_mut().find(|tally| tally.row.function == row.function);
+        let tally = tally.expect("a run names the rows of its families");
+        tally.count(agreed.told.number);
+        if agreed.told.number == 0 && !agreed.left.is_empty() {
+            let frame = case.call().and_then(|call| call.frame(&agreed.left));
+            for kind in frame.map_or(Vec::new(), kinds_of_accepted) {
+                *tally.kinds.entry(if is_known(kind) { kind } else { UNKNOWN }).or_default() += 1;
+            }
+            if let Case::List(_) = case {
+                let text = &agreed.left[1][..agreed.told.length() as usize];
+                self.count_lines(std::str::from_utf8(text).expect("a listing is text"));
+            }
+        }
+    }
+
+    fn count_lines(&mut self, text: &str) {
+        let mut lines = text.lines();
+        let first: Vec<&str> = lines.next().map_or(Vec::new(), |line| line.split(' ').collect());
+        match first[..] {
+            ["refused", number, _] => self.listings.count(number.parse().expect("a refusal's line tells its number")),
+            _ => self.listings.count(0),
+        }
+        for line in lines.filter(|line| *line != "ok") {
+            let depth = line.split(' ').next().and_then(|depth| depth.parse::<usize>().ok());
+            self.depths[depth.expect("a chunk's line begins with its depth")] += 1;
+        }
+    }
+
+    fn lists(&self) -> bool {
+        self.tallies.iter().any(|tally| tally.row.function == "list")
+    }
+
+    pub fn calls(&self) -> u64 {
+        self.tallies.iter().map(|tally| tally.calls).sum()
+    }
+
+    pub fn print(&self) {
+        self.tallies.iter().for_each(Tally::print);
+        if self.lists() {
+            self.listings.print();
+            (0..).zip(self.depths).for_each(|(depth, lines): (usize, u64)| println!("  depth {depth}    {lines}"));
+        }
+    }
+
+    /// The answers, kinds, lines and depths that should have been met and weren't, in words.
+    pub fn missing(&self) -> Vec<String> {
+        let mut missing = Vec::new();
+        for Tally { row, numbers, kinds, .. } in self.tallies.iter().chain(self.lists().then_some(&self.listings)) {
+            let unmet = row.numbers.iter().filter(|number| !numbers.contains_key(number));
+            missing.extend(unmet.map(|number| format!("{}: answer {number}", row.name)));
+            let unmet = row.kinds.iter().filter(|kind| !kinds.contains_key(kind));
+            missing.extend(unmet.map(|kind| format!("{}: kind {kind}", row.name)));
+        }
+        let unlisted = (0..).zip(self.depths).filter(|(_, lines)| self.lists() && *lines == 0);
+        missing.extend(unlisted.map(|(depth, _): (usize, u64)| format!("depth {depth}")));
+        missing
+    }
+}
+
+/// The kinds of the sub-chunks of a frame that was accepted, in file order.
+fn kinds_of_accepted(bytes: &[u8]) -> Vec<u16> {
+    let mut kinds = Vec::new();
+    let mut place = FRAME_HEADER;
+    for _ in 0..word_at(bytes, 6) {
+        kinds.push(word_at(bytes, place + 4));
+        place += size_at(bytes, place);
+    }
+    kinds
+}

@@ -1,0 +1,115 @@
+//! What a call answers, whichever it is: the number and the place that all give, and what goes with them.
+
+use crate::model::file_header::FileHeader;
+use crate::model::reel::Outcome;
+use crate::model::top_level::Span as Chunk;
+use crate::model::Refusal;
+use flic_boundary::{Answer, Header, Reel, ReelAnswer, Span, Written};
+
+#[derive(Clone, Copy, Debug, PartialEq, Eq)]
+pub struct Told {
+    pub number: u32,
+    pub place: u64,
+    pub rest: Rest,
+}
+
+/// What some calls tell besides; a refused one tells zeros, or the record handed in.
+#[derive(Clone, Copy, Debug, PartialEq, Eq)]
+pub enum Rest {
+    Nothing,
+    Length(u64),
+    Record(Reel),
+    Header { width: u64, height: u64, frames: u64, size: u64, speed: u32 },
+    Span { from: u64, end: u64 },
+}
+
+impl Told {
+    /// Done, with what goes with it.
+    pub fn done(rest: Rest) -> Told {
+        Told { number: 0, place: 0, rest }
+    }
+
+    /// A length, or the end of a record.
+    pub fn length(&self) -> u64 {
+        match self.rest {
+            Rest::Length(length) => length,
+            Rest::Record(reel) => reel.end,
+            _ => 0,
+        }
+    }
+
+    fn of<T>(answer: Result<T, Refusal>, refused: Rest, rest: impl FnOnce(T) -> Rest) -> Told {
+        match answer {
+            Ok(told) => Told::done(rest(told)),
+            Err(Refusal { number, place }) => Told { number, place, rest: refused },
+        }
+    }
+}
+
+impl From<Answer> for Told {
+    fn from(Answer { number, place }: Answer) -> Told {
+        Told { number, place, rest: Rest::Nothing }
+    }
+}
+
+impl From<Written> for Told {
+    fn from(Written { number, place, length }: Written) -> Told {
+        Told { number, place, rest: Rest::Length(length) }
+    }
+}
+
+impl From<ReelAnswer> for Told {
+    fn from(ReelAnswer { number, place, reel }: ReelAnswer) -> Told {
+        Told { number, place, rest: Rest::Record(reel) }
+    }
+}
+
+impl From<Header> for Told {
+    fn from(Header { number, place, width, height, frames, size, speed }: Header) -> Told {
+        Told { number, place, rest: Rest::Header { width, height, frames, size, speed } }
+    }
+}
+
+impl From<Span> for Told {
+    fn from(Span { number, place, from, end }: Span) -> Told {
+        Told { number, place, rest: Rest::Span { from, end } }
+    }
+}
+
+impl From<Result<(), Refusal>> for Told {
+    fn from(answer: Result<(), Refusal>) -> Told {
+        Told::of(answer, Rest::Nothing, |()| Rest::Nothing)
+    }
+}
+
+impl From<Result<usize, Refusal>> for Told {
+    fn from(answer: Result<usize, Refusal>) -> Told {
+        Told::of(answer, Rest::Length(0), |length| Rest::Length(length as u64))
+    }
+}
+
+impl From<Outcome> for Told {
+    fn from(Outcome { answer, reel }: Outcome) -> Told {
+        Told::of(answer, Rest::Record(reel), |()| Rest::Record(reel))
+    }
+}
+
+impl From<Result<FileHeader, Refusal>> for Told {
+    fn from(answer: Result<FileHeader, Refusal>) -> Told {
+        let refused = Rest::Header { width: 0, height: 0, frames: 0, size: 0, speed: 0 };
+        Told::of(answer, refused, |FileHeader { size, width, height, frames, speed }| Rest::Header {
+            width: width as u64,
+            height: height as u64,
+            frames: frames as u64,
+            size: size as u64,
+            speed,
+        })
+    }
+}
+
+impl From<Result<Chunk, Refusal>> for Told {
+    fn from(answer: Result<Chunk, Refusal>) -> Told {
+        let refused = Rest::Span { from: 0, end: 0 };
+        Told::of(answer, refused, |Chunk { start, end }| Rest::Span { from: start as u64, end: end as u64 })
+    }
+}

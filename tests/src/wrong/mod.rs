@@ -1,0 +1,176 @@
+//! What is wrong on purpose, and in which calls it must be seen: other readings of document 01, and trespasses.
+
+use crate::cases::{FAMILIES, SINGLE};
+use crate::model::reel_mistakes::{
+    Mistake, CHUNK_MISTAKES, HEADER_MISTAKES, LISTING_MISTAKES, NEXT_FRAME_MISTAKES, READ_HEADER_MISTAKES,
+    REEL_MISTAKES, TRAILER_MISTAKES, UNOPENED_MISTAKES, WALK_MISTAKES,
+};
+use crate::model::{decode, encode, Model, MODEL};
+use crate::reels::families as reels;
+use crate::runner::calls::Call;
+use crate::runner::compare::Subject;
+use crate::runner::inputs::listed;
+use crate::runner::lent::{Lent, Side};
+use crate::runner::told::{Rest, Told};
+use crate::runner::wrongs::{models, see, Deed, Telling, Trespasser, Wrong};
+use crate::trailers::families as trailers;
+use crate::write_cases::{REWRITE_FAMILIES, SINGLE_REWRITES, SINGLE_WRITES, WRITE_FAMILIES};
+
+/// A trespass in words, the function that makes it, and what it does to which slice.
+pub type Trespass = (&'static str, &'static str, &'static str, Deed);
+
+const BEFORE: Deed = Deed::WritesBeside(Side::Before);
+const AFTER: Deed = Deed::WritesBeside(Side::After);
+
+pub const READING: [Trespass; 4] = [
+    ("a write before the picture", "read_frame", "picture", BEFORE),
+    ("a write after the palette", "read_frame", "palette", AFTER),
+    ("a changed frame byte", "read_frame", "frame", Deed::Changes),
+    ("a changed picture of a refused frame", "read_frame", "picture", Deed::ChangesWhenRefused),
+];
+
+pub const WRITING: [Trespass; 3] = [
+    ("a write after the output", "write_frame", "output", AFTER),
+    ("a write past the frame", "write_frame", "output", Deed::ChangesPast),
+    ("a changed previous picture", "write_frame", "previous picture", Deed::Changes),
+];
+
+pub const REWRITING: [Trespass; 1] =
+    [("a changed excess of the working palette", "rewrite_frame", "working palette", Deed::ChangesExcess)];
+
+pub const REELS: [Trespass; 10] = [
+    ("a check that writes before the first picture", "check_reel", "first picture", BEFORE),
+    ("a check that writes after the second palette", "check_reel", "second palette", AFTER),
+    ("a check that changes the reel", "check_reel", "reel", Deed::Changes),
+    ("an open that writes after the bytes", "open_reel", "reel", AFTER),
+    ("an add that writes after the bytes", "add_frame", "reel", AFTER),
+    ("an add that changes the showing picture", "add_frame", "showing picture", Deed::Changes),
+    ("an add that changes the next palette", "add_frame", "next palette", Deed::Changes),
+    ("an add that changes a byte when refused", "add_frame", "reel", Deed::ChangesWhenRefused),
+    ("a close that changes the palette's excess", "close_reel", "first palette", Deed::ChangesExcess),
+    ("a close that changes a byte past the ring", "close_reel", "reel", Deed::ChangesPast),
+];
+
+pub const TRAILERS: [Trespass; 14] = [
+    ("a check that changes the file", "check_trailer", "file", Deed::Changes),
+    ("a check that writes after the file", "check_trailer", "file", AFTER),
+    ("a writing that writes before the file", "write_trailer", "file", BEFORE),
+    ("a writing that writes after the file", "write_trailer", "file", AFTER),
+    ("a writing that changes a byte when refused", "write_trailer", "file", Deed::ChangesWhenRefused),
+    ("a writing that changes a byte past the trailer", "write_trailer", "file", Deed::ChangesPast),
+    ("a listing that changes the file", "list", "file", Deed::Changes),
+    ("a listing that writes after the output", "list", "output", AFTER),
+    ("a listing that changes a byte when refused", "list", "output", Deed::ChangesWhenRefused),
+    ("a listing that changes a byte past the text", "list", "output", Deed::ChangesPast),
+    ("a reading of a header that changes the file", "read_header", "file", Deed::Changes),
+    ("a reading of a header that writes after it", "read_header", "file", AFTER),
+    ("a step that changes the file", "next_frame", "reel", Deed::Changes),
+    ("a step that writes before the file", "next_frame", "reel", BEFORE),
+];
+
+pub fn trespassers(all: &[Trespass]) -> Vec<Wrong> {
+    let wrong = |(name, function, slice, deed): &Trespass| {
+        Wrong::of(*name, Trespasser { function, slice, deed: *deed }, &[function])
+    };
+    all.iter().map(wrong).collect()
+}
+
+/// Refusals that tell more than they should.
+pub fn tellers() -> Vec<Wrong> {
+    let header = |told: Told| match told.rest {
+        Rest::Header { height, frames, size, speed, .. } if told.number == 14 => {
+            Told { rest: Rest::Header { width: 1, height, frames, size, speed }, ..told }
+        }
+        _ => told,
+    };
+    let span = |told: Told| match told.rest {
+        Rest::Span { end, .. } if told.number == 6 => Told { rest: Rest::Span { from: told.place, end }, ..told },
+        _ => told,
+    };
+    vec![
+        Wrong::of(
+            "a refused header that tells its fields",
+            Telling { function: "read_header", altered: header },
+            &["read_header"],
+        ),
+        Wrong::of(
+            "a refused step that tells a span",
+            Telling { function: "next_frame", altered: span },
+            &["next_frame"],
+        ),
+    ]
+}
+
+/// A reel's check that reads the trailer too, which only a check before and after its writing shows.
+struct ReadsTrailer;
+
+impl Subject for ReadsTrailer {
+    fn call(&self, call: &dyn Call, lent: &mut Lent) -> Told {
+        let told = call.model(&MODEL, lent);
+        if call.row().function != "check_reel" || told.number != 0 {
+            return told;
+        }
+        let [bytes, ..]: [_; 5] = lent.slices();
+        MODEL.check_trailer(bytes).into()
+    }
+}
+
+pub fn frames() -> Vec<(String, Model)> {
+    decode::MISTAKES.map(|mistake| (format!("{mistake:?}"), Model { frames: mistake, ..MODEL })).to_vec()
+}
+
+fn house(mistakes: &[encode::Mistake]) -> Vec<(String, Model)> {
+    mistakes.iter().map(|mistake| (format!("{mistake:?}"), Model { house: *mistake, ..MODEL })).collect()
+}
+
+fn of_reels(lists: &[&[Mistake]]) -> Vec<(String, Model)> {
+    lists.concat().iter().map(|mistake| (format!("{mistake:?}"), Model { reels: *mistake, ..MODEL })).collect()
+}
+
+pub fn seen_in_reading(base: u64) -> Vec<Wrong> {
+    let mut all = models(&frames(), &["read_frame"]);
+    all.extend(trespassers(&READING));
+    see(&mut all, &listed(&FAMILIES[..SINGLE]), 4_000, base);
+    all
+}
+
+pub fn seen_in_writing(base: u64) -> Vec<Wrong> {
+    let mut writes = models(&house(&encode::WRITE_MISTAKES), &["write_frame"]);
+    writes.extend(trespassers(&WRITING));
+    see(&mut writes, &listed(&WRITE_FAMILIES[..SINGLE_WRITES]), 3_000, base);
+    let mut rewrites = models(&house(&encode::REWRITE_MISTAKES), &["rewrite_frame"]);
+    rewrites.extend(trespassers(&REWRITING));
+    see(&mut rewrites, &listed(&REWRITE_FAMILIES[..SINGLE_REWRITES]), 3_000, base);
+    writes.extend(rewrites);
+    writes
+}
+
+pub fn seen_in_reels(base: u64) -> Vec<Wrong> {
+    let calls = ["check_reel", "open_reel", "add_frame", "close_reel"];
+    let mut all = models(&of_reels(&[HEADER_MISTAKES, CHUNK_MISTAKES, WALK_MISTAKES, REEL_MISTAKES]), &calls);
+    all.extend(trespassers(&REELS));
+    see(&mut all, &listed(&reels::FAMILIES[..reels::SMALL]), 100, base);
+    all
+}
+
+/// A wrong walk through a reel must show in each call that walks.
+pub fn seen_in_trailers(base: u64) -> Vec<Wrong> {
+    let walks: &[&[Mistake]] = &[HEADER_MISTAKES, CHUNK_MISTAKES, WALK_MISTAKES, UNOPENED_MISTAKES];
+    let calls: [(&str, &[&[Mistake]]); 5] = [
+        ("check_trailer", walks),
+        ("write_trailer", walks),
+        ("list", walks),
+        ("read_header", &[HEADER_MISTAKES, READ_HEADER_MISTAKES]),
+        ("next_frame", &[CHUNK_MISTAKES, NEXT_FRAME_MISTAKES]),
+    ];
+    let mut all = models(&of_reels(&[TRAILER_MISTAKES, LISTING_MISTAKES]), &["check_trailer", "write_trailer", "list"]);
+    all.extend(trespassers(&TRAILERS));
+    all.extend(tellers());
+    all.push(Wrong::of("a reel's check that reads the trailer", ReadsTrailer, &[]));
+    for (call, mistakes) in calls {
+        let of_call = models(&of_reels(mistakes), &[call]);
+        all.extend(of_call.into_iter().map(|wrong| Wrong { name: format!("{} in {call}", wrong.name), ..wrong }));
+    }
+    see(&mut all, &listed(&trailers::FAMILIES), 100, base);
+    all
+}
