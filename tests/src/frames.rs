@@ -375,13 +375,13 @@ impl Maker<'_> {
 #[cfg(test)]
 mod tests {
     use super::*;
-    use crate::model::decode::read_frame;
-    use crate::model::PALETTE_BYTES;
+    use crate::model::MODEL;
     use crate::sizes::right_size;
+    use crate::states::State;
 
     fn answer(frame: &Frame, width: usize, height: usize) -> u32 {
-        let (mut picture, mut palette) = (vec![0; width * height], vec![0; PALETTE_BYTES]);
-        match read_frame(&frame.bytes(), width as u64, height as u64, &mut picture, &mut palette) {
+        let mut shown = State::blank(width * height);
+        match MODEL.read_frame(&frame.bytes(), width as u64, height as u64, shown.work()) {
             Ok(()) => 0,
             Err(refusal) => refusal.number,
         }

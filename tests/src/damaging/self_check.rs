@@ -7,7 +7,7 @@ use flic_tests::rng::mix;
 use flic_tests::runner::compare::Comparer;
 use flic_tests::runner::lent::{Lender, Side};
 use flic_tests::runner::wrongs::{ignoring, models, Deed, Wrong};
-use flic_tests::wrong::{frames, tellers, trespassers, Trespass, READING, REELS, REWRITING, TRAILERS, WRITING};
+use flic_tests::wrong::{of_frames, tellers, trespassers, Trespass, READING, REELS, REWRITING, TRAILERS, WRITING};
 use std::os::unix::process::ExitStatusExt;
 use std::process::{Command, Stdio};
 
@@ -41,7 +41,7 @@ fn all() -> Vec<Guarded> {
         _ => None,
     });
     let mut all: Vec<Guarded> = trespassers(&trespasses).into_iter().zip(sides).collect();
-    let others = [tellers(), ignoring(), models(&frames(), &["read_frame"])];
+    let others = [tellers(), ignoring(), models(of_frames(), &["read_frame"])];
     all.extend(others.into_iter().flatten().map(|wrong| (wrong, None)));
     all
 }

@@ -1,280 +1,164 @@
-//! The model's building of a reel: open, add, and close, which plays the reel's own bytes and writes the ring.
+//! Building a reel: open, add, and close, which plays the reel's own bytes and writes the ring.
 
-use super::decode::{size_at, word_at};
-use super::encode::house_frame;
-use super::file_header::{close, count_frames, field, opened, Closing, FILE_HEADER};
-use super::playing::{Playing, Screen};
-use super::reel::{Outcome, MAX_FRAMES};
-use super::reel_mistakes::Mistake;
-use super::{accepted_size, long_enough, number, Refusal, CHUNK_HEADER, FRAME_HEADER, FRAME_TYPE};
+use super::file_header::Closing;
+use super::playing::Played;
+use super::{accepted_size, long_enough, number, require, size_at, Document, Model, Refusal, FILE_HEADER, MAX_FRAMES};
 use flic_boundary::{Pair, PairMut, Reel};
 
 const LARGEST_SIZE: u64 = u32::MAX as u64;
 
-/// Writes the header of an empty reel; the record of a refused open is all 0.
-pub fn open_reel(width: u64, height: u64, speed: u32, bytes: &mut [u8]) -> Outcome {
-    open_reel_with(Mistake::None, width, height, speed, bytes)
+/// An answer, and the record that goes with it: a refusal gives back the record handed in.
+#[derive(Clone, Copy, Debug, PartialEq, Eq)]
+pub struct Outcome {
+    pub answer: Result<(), Refusal>,
+    pub reel: Reel,
 }
 
-/// `open_reel` with one mistake in it, or none.
-pub fn open_reel_with(mistake: Mistake, width: u64, height: u64, speed: u32, bytes: &mut [u8]) -> Outcome {
-    let asked = Reel { width, height, frames: 0, end: FILE_HEADER as u64, closed: 0 };
-    let refused = if mistake == Mistake::RecordOfRefusedOpen { asked } else { Reel::default() };
-    Outcome::of(refused, open(mistake, asked, speed, bytes))
-}
-
-fn open(mistake: Mistake, reel: Reel, speed: u32, bytes: &mut [u8]) -> Result<Reel, Refusal> {
-    let room = bytes.len().min(FILE_HEADER);
-    let short = Err(Refusal::new(number::SHORT_OUTPUT, 0));
-    if mistake == Mistake::OpenRoomBeforeSize && room < FILE_HEADER {
-        return short;
-    }
-    let (width, height) = accepted_size(reel.width, reel.height)?;
-    let header = opened(mistake, width, height, speed);
-    if room == FILE_HEADER || mistake == Mistake::OpenWritesWhenShort {
-        bytes[..room].copy_from_slice(&header[..room]);
-    }
-    if room < FILE_HEADER {
-        return short;
-    }
-    if mistake == Mistake::OpenClearsRest {
-        bytes[FILE_HEADER..].fill(0);
-    }
-    Ok(reel)
-}
-
-/// Writes the house frame from the state that shows to the next one, at the record's end.
-pub fn add_frame(reel: Reel, bytes: &mut [u8], shown: Pair, next: Pair) -> Outcome {
-    add_frame_with(Mistake::None, reel, bytes, shown, next)
-}
-
-/// `add_frame` with one mistake in it, or none.
-pub fn add_frame_with(mistake: Mistake, reel: Reel, bytes: &mut [u8], shown: Pair, next: Pair) -> Outcome {
-    let outcome = Outcome::of(reel, add(mistake, reel, bytes, shown, next));
-    if outcome.answer.is_err() && mistake == Mistake::EndMovedWhenRefused {
-        return Outcome { reel: Reel { end: reel.end.wrapping_add(16), ..reel }, ..outcome };
-    }
-    outcome
-}
-
-fn add(mistake: Mistake, reel: Reel, bytes: &mut [u8], shown: Pair, next: Pair) -> Result<Reel, Refusal> {
-    let most = if mistake == Mistake::FramePast4000 { MAX_FRAMES + 1 } else { MAX_FRAMES };
-    let may_add = !is_closed(mistake, reel) && reel.frames < most;
-    let (pictures, palettes) = ([shown.picture, next.picture], [shown.palette, next.palette]);
-    let (width, height) = accepted_record(mistake, reel, may_add, bytes, &pictures, &palettes)?;
-    record_fits(mistake, reel, bytes)?;
-    let blank = Screen::blank(width * height);
-    let previous = if mistake == Mistake::AddFromBlank { blank.shown() } else { shown };
-    let end = append(mistake, reel, bytes, &house_frame(width, height, previous, next))?;
-    let frames = reel.frames + 1;
-    if mistake == Mistake::AddCountsInHeader {
-        count_frames(bytes, frames);
-    }
-    Ok(Reel { frames, end, ..reel })
-}
-
-fn is_closed(mistake: Mistake, reel: Reel) -> bool {
-    match mistake {
-        Mistake::ClosedTwoIsOpen => reel.closed == 1,
-        _ => reel.closed != 0,
-    }
-}
-
-/// The checks 18, 2 and 1 of an add or a close; gives width and height.
-fn accepted_record(
-    mistake: Mistake,
-    reel: Reel,
-    may_go_on: bool,
-    bytes: &[u8],
-    pictures: &[&[u8]],
-    palettes: &[&[u8]],
-) -> Result<(usize, usize), Refusal> {
-    if mistake == Mistake::SizeBeforeClosed {
-        accepted_size(reel.width, reel.height)?;
-    }
-    if !may_go_on {
-        return Err(Refusal::new(number::CLOSED_OR_FULL, 0));
-    }
-    let (width, height) = accepted_size(reel.width, reel.height)?;
-    if mistake == Mistake::RecordBeforeSlices {
-        record_fits(mistake, reel, bytes)?;
-    }
-    long_enough(width * height, pictures, palettes)?;
-    Ok((width, height))
-}
-
-/// Document 01's check 4 of an open reel's record.
-fn record_fits(mistake: Mistake, reel: Reel, bytes: &[u8]) -> Result<(), Refusal> {
-    let length = bytes.len() as u64;
-    if mistake == Mistake::RoomBeforeRecord && reel.end.saturating_add(FRAME_HEADER as u64) > length {
-        return Err(Refusal::new(number::SHORT_OUTPUT, 0));
-    }
-    let least = if mistake == Mistake::EndInHeaderAccepted { 0 } else { FILE_HEADER as u64 };
-    let refused_by_mistake = mistake == Mistake::EndAtLengthRefused && reel.end == length;
-    if (least..=length).contains(&reel.end) && !refused_by_mistake {
-        Ok(())
-    } else {
-        Err(Refusal::new(number::CUT_SHORT, 0))
-    }
-}
-
-/// Writes a frame at the record's end, and gives the end after it.
-fn append(mistake: Mistake, reel: Reel, bytes: &mut [u8], frame: &[u8]) -> Result<u64, Refusal> {
-    let end = reel.end + frame.len() as u64;
-    let at = reel.end as usize;
-    if end > bytes.len() as u64 || end > LARGEST_SIZE {
-        if mistake == Mistake::WritesWhenShort {
-            let room = frame.len().min(bytes.len() - at);
-            bytes[at..at + room].copy_from_slice(&frame[..room]);
-        }
-        return Err(Refusal::new(number::SHORT_OUTPUT, 0));
-    }
-    bytes[at..at + frame.len()].copy_from_slice(frame);
-    Ok(end)
-}
-
-/// Plays an open reel's frames, writes the ring from what shows last, and finishes the header.
-pub fn close_reel(reel: Reel, bytes: &mut [u8], first: PairMut, second: PairMut) -> Outcome {
-    close_reel_with(Mistake::None, reel, bytes, first, second)
-}
-
-/// `close_reel` with one mistake in it, or none.
-pub fn close_reel_with(mistake: Mistake, reel: Reel, bytes: &mut [u8], first: PairMut, second: PairMut) -> Outcome {
-    let outcome = Outcome::of(reel, finish(mistake, reel, bytes, first, second));
-    if outcome.answer.is_err() && mistake == Mistake::CloseMarksRefused {
-        return Outcome { reel: Reel { closed: 1, ..reel }, ..outcome };
-    }
-    outcome
-}
-
-fn finish(
-    mistake: Mistake,
-    reel: Reel,
-    bytes: &mut [u8],
-    mut first: PairMut,
-    mut second: PairMut,
-) -> Result<Reel, Refusal> {
-    let pictures = [&*first.picture, &*second.picture];
-    let palettes = [&*first.palette, &*second.palette];
-    let may_close = may_close(mistake, reel);
-    let (width, height) = accepted_record(mistake, reel, may_close, bytes, &pictures, &palettes)?;
-    let (width, height) = played_size(mistake, bytes, width, height);
-    let handed_in = Screen::held_by(&first, width * height);
-    let mut playing = Playing::from_blank(mistake, width, height);
-    let played = play_open_reel(&mut playing, reel, bytes);
-    if mistake == Mistake::CloseBadRecordAsFound {
-        record_fits(mistake, reel, bytes)?;
-    }
-    playing.leave(played.is_err(), &mut first, &mut second);
-    let second_frame = played?;
-    let ring = ring(&playing, &handed_in, width, height);
-    let closing = Closing {
-        size: (reel.end + ring.len() as u64) as u32,
-        frames: reel.frames as u16,
-        second_frame: told_oframe2(mistake, reel, second_frame) as u32,
-    };
-    if mistake == Mistake::HeaderWrittenWhenShort {
-        close(bytes, &closing);
-    }
-    let end = append(mistake, reel, bytes, &ring)?;
-    if mistake == Mistake::HeaderWrittenAnew {
-        bytes[..FILE_HEADER].copy_from_slice(&opened(mistake, width, height, 0));
-    }
-    close(bytes, &closing);
-    let end = if mistake == Mistake::CloseKeepsEnd { reel.end } else { end };
-    Ok(Reel { end, closed: 1, ..reel })
-}
-
-fn may_close(mistake: Mistake, reel: Reel) -> bool {
-    let least = if mistake == Mistake::CloseOfNone { 0 } else { 1 };
-    let most = if mistake == Mistake::CloseOver4000 { u64::MAX } else { MAX_FRAMES };
-    let is_open = mistake == Mistake::CloseTwice || !is_closed(mistake, reel);
-    is_open && (least..=most).contains(&reel.frames)
-}
-
-/// The record's size, or the mistake of reading it from the header, where that asks for no more pixels.
-fn played_size(mistake: Mistake, bytes: &[u8], width: usize, height: usize) -> (usize, usize) {
-    if mistake != Mistake::CloseSizeFromHeader || bytes.len() < FILE_HEADER {
-        return (width, height);
-    }
-    let stored = (word_at(bytes, field::WIDTH) as usize, word_at(bytes, field::HEIGHT) as usize);
-    if stored.0 * stored.1 > 0 && stored.0 * stored.1 <= width * height {
-        stored
-    } else {
-        (width, height)
-    }
-}
-
-/// The frame that leads from what shows last back to frame 1.
-fn ring(playing: &Playing, handed_in: &Screen, width: usize, height: usize) -> Vec<u8> {
-    let blank = Screen::blank(width * height);
-    let (from, to) = match playing.mistake {
-        Mistake::RingFromFrame1 => (&playing.first, &playing.first),
-        Mistake::RingFromHandedState => (handed_in, &playing.first),
-        Mistake::RingToBlank => (&playing.last, &blank),
-        _ => (&playing.last, &playing.first),
-    };
-    house_frame(width, height, from.shown(), to.shown())
-}
-
-fn told_oframe2(mistake: Mistake, reel: Reel, second_frame: usize) -> usize {
-    match mistake {
-        Mistake::Oframe2OfOneFrameIs0 if reel.frames == 1 => 0,
-        Mistake::Oframe2IsRing => reel.end as usize,
-        _ => second_frame,
-    }
-}
-
-/// Plays the frames back to back from offset 128 to the record's end, and gives where the second one begins.
-fn play_open_reel(playing: &mut Playing, reel: Reel, bytes: &[u8]) -> Result<usize, Refusal> {
-    let mistake = playing.mistake;
-    record_fits(mistake, reel, bytes)?;
-    let end = reel.end as usize;
-    if mistake == Mistake::CloseRoomBeforeFrames && bytes.len() - end < FRAME_HEADER {
-        return Err(Refusal::new(number::SHORT_OUTPUT, 0));
-    }
-    let enclosing = if mistake == Mistake::CloseFramesPastRecord { bytes } else { &bytes[..end] };
-    let mut place = FILE_HEADER.min(end);
-    let mut second_frame = place;
-    for frame in 0..reel.frames {
-        place = play_frame(playing, enclosing, place)?;
-        if frame == 0 {
-            second_frame = place;
+impl Outcome {
+    fn of(handed_in: Reel, call: impl FnOnce() -> Result<Reel, Refusal>) -> Outcome {
+        match call() {
+            Ok(reel) => Outcome { answer: Ok(()), reel },
+            Err(refusal) => Outcome { answer: Err(refusal), reel: handed_in },
         }
     }
-    if place != end && mistake != Mistake::CloseEarlyEndAccepted {
-        let told = if mistake == Mistake::CloseEarlyEndAtPlace { place } else { 0 };
-        return Err(Refusal::new(number::CUT_SHORT, told));
-    }
-    Ok(second_frame)
 }
 
-/// Plays the frame at `place` with a single frame's refusals, and gives where it ends.
-fn play_frame(playing: &mut Playing, enclosing: &[u8], place: usize) -> Result<usize, Refusal> {
-    let rest = &enclosing[place..];
-    let has_type = rest.len() >= CHUNK_HEADER;
-    match playing.mistake {
-        Mistake::CloseMissingFrameIs15 if !has_type => return Err(Refusal::new(number::FRAME_MISSING, place)),
-        Mistake::CloseTypeBeforeLength if has_type && word_at(rest, 4) != FRAME_TYPE => {
-            return Err(Refusal::new(number::WRONG_TYPE, place));
-        }
-        Mistake::CloseStepsOver if has_type && word_at(rest, 4) != FRAME_TYPE => {
-            let size = size_at(rest, 0);
-            if (CHUNK_HEADER..=rest.len()).contains(&size) {
-                return play_frame(playing, enclosing, place + size);
+impl Building for Document {}
+
+pub trait Building {
+    /// Writes the header of an empty reel: "2, 1, 3". The record of a refused open is all 0.
+    fn open_reel(&self, model: &Model, width: u64, height: u64, speed: u32, bytes: &mut [u8]) -> Outcome {
+        Outcome::of(Reel::default(), || {
+            let (columns, rows) = accepted_size(width, height)?;
+            require(bytes.len() >= FILE_HEADER, number::SHORT_OUTPUT, 0)?;
+            bytes[..FILE_HEADER].copy_from_slice(&model.headers.opened(columns, rows, speed));
+            Ok(Reel { width, height, frames: 0, end: FILE_HEADER as u64, closed: 0 })
+        })
+    }
+
+    /// "An add is handed the showing state and writes the house frame from it." "Writing: 18, 2, 1, 3"; a record that
+    /// doesn't fit is 4 "after 1".
+    fn add_frame(&self, model: &Model, reel: Reel, bytes: &mut [u8], shown: Pair, next: Pair) -> Outcome {
+        Outcome::of(reel, || {
+            let (pictures, palettes) = ([shown.picture, next.picture], [shown.palette, next.palette]);
+            let (width, height) = self.checked(reel, self.may_add(reel), &pictures, &palettes)?;
+            self.record_fits(reel, bytes.len() as u64)?;
+            let end = self.append(reel, bytes, &model.house_frame(width, height, shown, next))?;
+            Ok(Reel { frames: reel.frames + 1, end, ..reel })
+        })
+    }
+
+    /// Plays an open reel's frames, writes the ring from what shows last, and finishes the header. "A close then plays its
+    /// frames .., with their refusals; .. then 3."
+    fn close_reel(
+        &self,
+        model: &Model,
+        reel: Reel,
+        bytes: &mut [u8],
+        mut first: PairMut,
+        mut second: PairMut,
+    ) -> Outcome {
+        Outcome::of(reel, || {
+            let pictures = [&*first.picture, &*second.picture];
+            let palettes = [&*first.palette, &*second.palette];
+            let (width, height) = self.checked(reel, self.may_close(reel), &pictures, &palettes)?;
+            let mut played = Played::from_blank(width, height);
+            let second_frame = self.play_open_reel(model, reel, bytes, &mut played);
+            model.playing.leave(&played, &mut first, &mut second);
+            let second_frame = second_frame? as u32;
+            let end = self.append(reel, bytes, &self.ring(model, &played))?;
+            let closing = Closing { size: end as u32, frames: reel.frames as u16, second_frame };
+            model.headers.close(bytes, &closing);
+            Ok(Reel { end, closed: 1, ..reel })
+        })
+    }
+
+    fn is_closed(&self, reel: Reel) -> bool {
+        reel.closed != 0
+    }
+
+    /// 18: "adding to a closed reel, a frame past 4,000, ..
+    fn may_add(&self, reel: Reel) -> bool {
+        !self.is_closed(reel) && reel.frames < MAX_FRAMES
+    }
+
+    /// .. closing with none or over 4,000, or closing twice".
+    fn may_close(&self, reel: Reel) -> bool {
+        !self.is_closed(reel) && (1..=MAX_FRAMES).contains(&reel.frames)
+    }
+
+    /// The checks 18, 2 and 1 of an add or a close; gives width and height.
+    fn checked(
+        &self,
+        reel: Reel,
+        may_go_on: bool,
+        pictures: &[&[u8]],
+        palettes: &[&[u8]],
+    ) -> Result<(usize, usize), Refusal> {
+        require(may_go_on, number::CLOSED_OR_FULL, 0)?;
+        let (width, height) = accepted_size(reel.width, reel.height)?;
+        long_enough(width * height, pictures, palettes)?;
+        Ok((width, height))
+    }
+
+    /// "An add or close whose record ends before 128 or past the lent bytes is 4, place 0".
+    fn record_fits(&self, reel: Reel, length: u64) -> Result<(), Refusal> {
+        require((FILE_HEADER as u64..=length).contains(&reel.end), number::CUT_SHORT, 0)
+    }
+
+    /// Writes a frame at the record's end, and gives the end after it. 3: "the output is shorter than the bytes to be
+    /// written, or a size passes 32 bits".
+    fn append(&self, reel: Reel, bytes: &mut [u8], frame: &[u8]) -> Result<u64, Refusal> {
+        let (at, end) = (reel.end as usize, reel.end + frame.len() as u64);
+        require(end <= bytes.len() as u64 && end <= LARGEST_SIZE, number::SHORT_OUTPUT, 0)?;
+        bytes[at..at + frame.len()].copy_from_slice(frame);
+        Ok(end)
+    }
+
+    /// "A close then plays its frames from offset 128, back to back, within the record's end"; gives where the second one
+    /// begins.
+    fn play_open_reel(&self, model: &Model, reel: Reel, bytes: &[u8], played: &mut Played) -> Result<usize, Refusal> {
+        self.record_fits(reel, bytes.len() as u64)?;
+        let end = reel.end as usize;
+        let (mut place, mut second_frame) = (FILE_HEADER, FILE_HEADER);
+        for frame in 0..reel.frames {
+            place = self.play_frame(model, bytes, end, place, played)?;
+            if frame == 0 {
+                second_frame = place;
             }
         }
-        _ => {}
+        self.all_played(place, end)?;
+        Ok(second_frame)
     }
-    playing.play(rest, place)?;
-    Ok(place + size_at(rest, 0))
+
+    /// Plays the frame at `place` with a single frame's refusals, and gives where it ends.
+    fn play_frame(
+        &self,
+        model: &Model,
+        bytes: &[u8],
+        end: usize,
+        place: usize,
+        played: &mut Played,
+    ) -> Result<usize, Refusal> {
+        model.playing.play(model, &bytes[place..end], place, played)?;
+        Ok(place + size_at(bytes, place))
+    }
+
+    /// "frames that end before [the record's end] are 4, place 0".
+    fn all_played(&self, place: usize, end: usize) -> Result<(), Refusal> {
+        require(place == end, number::CUT_SHORT, 0)
+    }
+
+    /// "The ring is written from the state in which the close's own playing ends", and leads back to frame 1.
+    fn ring(&self, model: &Model, played: &Played) -> Vec<u8> {
+        model.house_frame(played.width, played.height, played.last.shown(), played.first.shown())
+    }
 }
 
 #[cfg(test)]
 mod tests {
     use super::*;
-    use crate::model::check::check_reel;
-    use crate::model::PALETTE_BYTES;
+    use crate::model::{MODEL, PALETTE_BYTES};
     use crate::reels::examples::{blank_reel, zero_until_close, SPEED};
 
     const FILL: u8 = 0x77;
@@ -299,7 +183,7 @@ mod tests {
             PairMut { picture: &mut first, palette: &mut first_palette },
             PairMut { picture: &mut second, palette: &mut second_palette },
         );
-        let outcome = close_reel(reel, bytes, pairs.0, pairs.1);
+        let outcome = MODEL.close_reel(reel, bytes, pairs.0, pairs.1);
         Closed { outcome, first, second }
     }
 
@@ -309,7 +193,7 @@ mod tests {
     }
 
     fn still(bytes: &mut [u8], reel: Reel, pixels: usize) -> Reel {
-        let outcome = add_frame(reel, bytes, shown(&vec![0; pixels]), shown(&vec![0; pixels]));
+        let outcome = MODEL.add_frame(reel, bytes, shown(&vec![0; pixels]), shown(&vec![0; pixels]));
         assert_eq!(outcome.answer, Ok(()));
         outcome.reel
     }
@@ -317,7 +201,7 @@ mod tests {
     #[test]
     fn the_one_by_one_blank_reel_of_document_01() {
         let mut bytes = [FILL; 161];
-        let open = open_reel(1, 1, SPEED, &mut bytes);
+        let open = MODEL.open_reel(1, 1, SPEED, &mut bytes);
         assert_eq!(open.reel, Reel { width: 1, height: 1, frames: 0, end: 128, closed: 0 });
         let wanted = blank_reel();
         assert!((0..128).all(|at| bytes[at] == if zero_until_close(at) { 0 } else { wanted[at] }));
@@ -331,17 +215,17 @@ mod tests {
         let mut pairs = [[FILL; PALETTE_BYTES]; 4];
         let [a, b, c, d] = &mut pairs;
         let pair = |picture, palette| PairMut { picture, palette };
-        assert_eq!(check_reel(&bytes, pair(a, b), pair(c, d)), Ok(()));
+        assert_eq!(MODEL.check_reel(&bytes, pair(a, b), pair(c, d)), Ok(()));
     }
 
     #[test]
     fn the_ring_leads_from_what_the_bytes_show() {
         let mut bytes = [FILL; 400];
-        let open = open_reel(2, 1, 0, &mut bytes).reel;
-        let one = add_frame(open, &mut bytes, shown(&[0, 0]), shown(&[1, 2])).reel;
+        let open = MODEL.open_reel(2, 1, 0, &mut bytes).reel;
+        let one = MODEL.add_frame(open, &mut bytes, shown(&[0, 0]), shown(&[1, 2])).reel;
         let wrongly_shown = [9, 9];
-        let two = add_frame(one, &mut bytes, shown(&wrongly_shown), shown(&[9, 9])).reel;
-        let three = add_frame(two, &mut bytes, shown(&[0, 0]), shown(&[5, 6])).reel;
+        let two = MODEL.add_frame(one, &mut bytes, shown(&wrongly_shown), shown(&[9, 9])).reel;
+        let three = MODEL.add_frame(two, &mut bytes, shown(&[0, 0]), shown(&[5, 6])).reel;
         let Closed { outcome, first, second } = closed(three, &mut bytes);
         assert_eq!(outcome.answer, Ok(()));
         assert_eq!((first, second), (vec![5, 6, FILL], vec![1, 2, FILL]));
@@ -354,7 +238,7 @@ mod tests {
     fn the_largest_size_has_another_aspect() {
         let aspect = |width, height| {
             let mut bytes = [0; FILE_HEADER];
-            assert_eq!(open_reel(width, height, u32::MAX, &mut bytes).answer, Ok(()));
+            assert_eq!(MODEL.open_reel(width, height, u32::MAX, &mut bytes).answer, Ok(()));
             assert_eq!(bytes[16..20], [0xFF; 4]);
             (bytes[38], bytes[40])
         };
@@ -364,9 +248,9 @@ mod tests {
     #[test]
     fn opens_are_refused_in_order() {
         let mut bytes = [FILL; 127];
-        let refused = open_reel(0, 1, 0, &mut bytes);
+        let refused = MODEL.open_reel(0, 1, 0, &mut bytes);
         assert_eq!((refusal(refused), refused.reel), ((2, 0), Reel::default()));
-        let refused = open_reel(1, 1, 0, &mut bytes);
+        let refused = MODEL.open_reel(1, 1, 0, &mut bytes);
         assert_eq!((refusal(refused), refused.reel), ((3, 0), Reel::default()));
         assert_eq!(bytes, [FILL; 127]);
     }
@@ -375,7 +259,7 @@ mod tests {
     fn adds_are_refused_in_order() {
         let mut bytes = [FILL; 150];
         let mut refused = |reel: Reel, picture: &[u8]| {
-            let outcome = add_frame(reel, &mut bytes, shown(picture), shown(&[0]));
+            let outcome = MODEL.add_frame(reel, &mut bytes, shown(picture), shown(&[0]));
             assert_eq!(outcome.reel, reel);
             refusal(outcome)
         };
@@ -398,8 +282,8 @@ mod tests {
     #[test]
     fn closes_are_refused_in_order() {
         let mut bytes = [0; 400];
-        let open = open_reel(1, 1, 0, &mut bytes).reel;
-        let reel = add_frame(open, &mut bytes, shown(&[0]), shown(&[5])).reel;
+        let open = MODEL.open_reel(1, 1, 0, &mut bytes).reel;
+        let reel = MODEL.add_frame(open, &mut bytes, shown(&[0]), shown(&[5])).reel;
         let end = reel.end as usize;
         let refused = |reel: Reel, bytes: &[u8]| {
             let mut handed_in = bytes.to_vec();

@@ -1,97 +1,61 @@
-//! The model's check of a whole reel: its header, its top-level chunks, its frames, and its ring.
+//! The check of a whole reel: its header, its top-level chunks, its frames, and its ring.
 
-use super::file_header::accepted;
-use super::playing::{Playing, Screen};
-use super::reel_mistakes::Mistake;
-use super::top_level::{Span, TopLevel};
-use super::{number, Refusal};
+use super::playing::Played;
+use super::top_level::is_frame;
+use super::{number, Document, FileHeader, Model, Refusal};
 use flic_boundary::PairMut;
 
-/// Checks a closed reel; from the header's acceptance on, the pairs hold the last state and frame 1's.
-pub fn check_reel(bytes: &[u8], first: PairMut, second: PairMut) -> Result<(), Refusal> {
-    check_reel_with(Mistake::None, bytes, first, second)
-}
+impl Checking for Document {}
 
-/// `check_reel` with one mistake in it, or none.
-pub fn check_reel_with(mistake: Mistake, bytes: &[u8], mut first: PairMut, mut second: PairMut) -> Result<(), Refusal> {
-    if mistake == Mistake::BlankedBeforeChecks {
-        first.picture.fill(0);
-        second.palette.fill(0);
-    }
-    let pictures = [&*first.picture, &*second.picture];
-    let palettes = [&*first.palette, &*second.palette];
-    let header = accepted(mistake, bytes, &pictures, &palettes)?;
-    let mut playing = Playing::from_blank(mistake, header.width, header.height);
-    if mistake == Mistake::Frame1AgainstFirstPair {
-        playing.last = Screen::held_by(&first, header.width * header.height);
-    }
-    let top = TopLevel::of(mistake, bytes, &header);
-    let played = Walk { bytes, top, frames: header.frames, playing: &mut playing }.whole_reel();
-    playing.leave(played.is_err(), &mut first, &mut second);
-    let ring = played?;
-    let excess_differs = first.picture != second.picture || first.palette != second.palette;
-    if mistake == Mistake::RingExcessCompared && excess_differs {
-        return Err(Refusal::new(number::RING_ASTRAY, ring));
-    }
-    Ok(())
-}
-
-struct Walk<'a> {
-    bytes: &'a [u8],
-    top: TopLevel<'a>,
-    frames: usize,
-    playing: &'a mut Playing,
-}
-
-impl Walk<'_> {
-    /// Plays all frames and the ring, compares, and gives the ring's offset.
-    fn whole_reel(&mut self) -> Result<usize, Refusal> {
-        let mut place = self.top.start();
-        for _ in 0..self.frames {
-            place = self.next_frame(place)?.end;
-        }
-        if self.playing.mistake == Mistake::RingNotRead {
-            return Ok(place);
-        }
-        let before_ring = self.playing.last.clone();
-        let ring = self.next_frame(place)?;
-        self.compare_ring(ring.start, before_ring)?;
-        self.top.pass_ring(ring)?;
-        Ok(ring.start)
+pub trait Checking {
+    /// "Reel: 4, 5, size field 6 then 4, 2, 14, 1, then chunks from the front". "Once the checks up to 1 have passed",
+    /// the pairs are set, whatever is answered.
+    fn check_reel(&self, model: &Model, bytes: &[u8], first: PairMut, second: PairMut) -> Result<(), Refusal> {
+        let pictures = [&*first.picture, &*second.picture];
+        let header = model.headers.accepted(bytes, &pictures, &[&*first.palette, &*second.palette])?;
+        let played = Played::from_blank(header.width, header.height);
+        self.play_and_leave(model, bytes, &header, played, first, second)
     }
 
-    fn compare_ring(&mut self, ring: usize, before_ring: Screen) -> Result<(), Refusal> {
-        let Playing { mistake, last, first, .. } = &mut *self.playing;
-        let (picture, palette) = (last.picture == first.picture, last.palette == first.palette);
-        let leads_back = match mistake {
-            Mistake::RingNotCompared => true,
-            Mistake::RingPaletteNotCompared => picture,
-            Mistake::RingPictureNotCompared => palette,
-            _ => picture && palette,
-        };
-        if leads_back {
-            return Ok(());
-        }
-        if *mistake == Mistake::RingNotCountedAt16 {
-            *last = before_ring;
-        }
-        let place = if *mistake == Mistake::RingPlace0 { 0 } else { ring };
-        Err(Refusal::new(number::RING_ASTRAY, place))
+    fn play_and_leave(
+        &self,
+        model: &Model,
+        bytes: &[u8],
+        header: &FileHeader,
+        mut played: Played,
+        mut first: PairMut,
+        mut second: PairMut,
+    ) -> Result<(), Refusal> {
+        let answer = self.whole_reel(model, bytes, header, &mut played);
+        model.playing.leave(&played, &mut first, &mut second);
+        answer
     }
 
-    /// Steps over other chunks from `place` on, and plays the frame that comes then.
-    fn next_frame(&mut self, from: usize) -> Result<Span, Refusal> {
-        let mut place = from;
-        loop {
-            let chunk = self.top.chunk_at(place)?;
-            if self.top.is_frame(place) {
-                if self.playing.mistake != Mistake::StepsOverAllButFrame1 || !self.playing.has_begun() {
-                    self.playing.play(&self.bytes[place..chunk.end], place)?;
-                }
-                return Ok(chunk);
+    /// Plays all frames and the ring, "the ring comparison last"; "the ring counts, also when 16 is given".
+    fn whole_reel(&self, model: &Model, bytes: &[u8], header: &FileHeader, played: &mut Played) -> Result<(), Refusal> {
+        let mut ring = 0;
+        model.top_level.walk(bytes, header, &mut |chunk| {
+            if is_frame(bytes, chunk.start) {
+                ring = chunk.start;
+                model.playing.play(model, &bytes[chunk.start..chunk.end], chunk.start, played)?;
             }
-            place = chunk.end;
+            Ok(())
+        })?;
+        if self.leads_back(played) {
+            Ok(())
+        } else {
+            Err(self.astray(ring))
         }
+    }
+
+    /// 16: "the ring doesn't give frame 1's picture and palette".
+    fn leads_back(&self, played: &Played) -> bool {
+        played.last == played.first
+    }
+
+    /// "16 gives the ring's offset".
+    fn astray(&self, ring: usize) -> Refusal {
+        Refusal::new(number::RING_ASTRAY, ring)
     }
 }
 
@@ -100,7 +64,7 @@ mod tests {
     use super::*;
     use crate::frames::{frame_of, Chunk};
     use crate::model::file_header::FILE_HEADER;
-    use crate::model::{kind, FRAME_TYPE, PALETTE_BYTES, PREFIX_TYPE};
+    use crate::model::{kind, FRAME_TYPE, MODEL, PALETTE_BYTES, PREFIX_TYPE};
 
     const FILL: u8 = 0x77;
 
@@ -140,7 +104,7 @@ mod tests {
         let [first_palette, second_palette] = &mut palettes;
         let first = PairMut { picture: first, palette: first_palette };
         let second = PairMut { picture: second, palette: second_palette };
-        let answer = check_reel(bytes, first, second).map_err(|refusal| (refusal.number, refusal.place));
+        let answer = MODEL.check_reel(bytes, first, second).map_err(|refusal| (refusal.number, refusal.place));
         let told = |i: usize| {
             let ([a, b, excess], palette) = (pictures[i], palettes[i]);
             [a, b, excess, palette[0], palette[PALETTE_BYTES]]

@@ -1,193 +1,361 @@
-//! The model's reader of one frame: document 01's "Frames, chunks and rows", rule by rule.
+//! Reading one frame: document 01's "Frames, chunks and rows".
 
-use super::{accepted_size, kind, long_enough, number, Refusal, CHUNK_HEADER, FRAME_HEADER, FRAME_TYPE, PALETTE_BYTES};
+use super::{
+    accepted_size, kind, long_enough, number, require, size_at, word_at, Document, Refusal, CHUNK_HEADER, FRAME_HEADER,
+    FRAME_TYPE, PALETTE_BYTES,
+};
+use flic_boundary::PairMut;
 
 const COLOURS: usize = PALETTE_BYTES / 3;
 const TOP_LEVEL: u8 = 63;
 
-/// A mistake made on purpose, with which a comparison shows that it can fail.
-#[derive(Clone, Copy, Debug, PartialEq, Eq)]
-pub enum Mistake {
-    None,
-    BrunSignOfLc,
-    Ss2SkipAsPairs,
-    SlicesBeforeSize,
-    TouchesNothing,
-    FixedPicture,
-    RefusesEverything,
-    DataBeforeWidth,
-    RowBeforeHighBits,
-    RowSkipUnchecked,
-    LastPixelAfterPackets,
-    LastPixelTwice,
-    LevelsUnchecked,
-    LevelsAsTheyStand,
-    LevelsBeforeColours,
-    ColourCountZeroIsNone,
-    LcFirstRowUnchecked,
-    LcStartChecked,
-    PlaceOfFrame,
-    BlackPastPicture,
-    KeepsHalfReadFrame,
-    SubChunksPastFrame,
-    KindOfOneByte,
-    FrameSizeBeforeType,
-    BrunMinus128Refused,
-    DeltaMinus128Refused,
-    Ss2CountOfOneByte,
-    ChunkCountOfOneByte,
-    LastPixelAtOddOnly,
-    EmptyPacketAtWidthRefused,
-    RowSkipOnceOnly,
+impl Frames for Document {}
+
+pub trait Frames {
+    /// "Single frame: 2, 1, then its bytes from the front." A refusal leaves all lent memory as found.
+    fn read_frame(&self, bytes: &[u8], width: u64, height: u64, shown: PairMut) -> Result<(), Refusal> {
+        let mut screen = self.checked(width, height, &shown)?;
+        self.play(bytes, &mut screen)?;
+        shown.picture.copy_from_slice(&screen.picture);
+        shown.palette.copy_from_slice(&screen.palette);
+        Ok(())
+    }
+
+    /// The checks 2 and 1, and copies of what was lent.
+    fn checked(&self, width: u64, height: u64, shown: &PairMut) -> Result<Screen, Refusal> {
+        let (width, height) = accepted_size(width, height)?;
+        long_enough(width * height, &[shown.picture], &[shown.palette])?;
+        Ok(Screen { width, height, picture: shown.picture.to_vec(), palette: shown.palette.to_vec() })
+    }
+
+    /// "Then as many sub-chunks as the count says"; "sub-chunks act in file order".
+    fn play(&self, bytes: &[u8], screen: &mut Screen) -> Result<(), Refusal> {
+        let header = self.frame_header(bytes)?;
+        let mut place = FRAME_HEADER;
+        for _ in 0..header.count {
+            let chunk = self.sub_chunk(&bytes[..header.end], place)?;
+            let data = &mut Data { rest: &bytes[place + CHUNK_HEADER..place + chunk.size] };
+            self.act(chunk.kind, data, screen).map_err(|number| self.fault(number, place))?;
+            place += chunk.size;
+        }
+        Ok(())
+    }
+
+    /// "Header of a chunk: length present (4), type (5, frames only), size too small (6), size too large (4)"; any fault
+    /// of the frame header gives place 0.
+    fn frame_header(&self, bytes: &[u8]) -> Result<FrameHeader, Refusal> {
+        require(bytes.len() >= FRAME_HEADER, number::CUT_SHORT, 0)?;
+        let end = size_at(bytes, 0);
+        require(word_at(bytes, 4) == FRAME_TYPE, number::WRONG_TYPE, 0)?;
+        require(end >= FRAME_HEADER, number::SIZE_TOO_SMALL, 0)?;
+        require(end <= bytes.len(), number::CUT_SHORT, 0)?;
+        Ok(FrameHeader { end, count: word_at(bytes, 6) })
+    }
+
+    /// The sub-chunk that begins at `place`, within the bytes that enclose it.
+    fn sub_chunk(&self, enclosing: &[u8], place: usize) -> Result<SubChunk, Refusal> {
+        let rest = &enclosing[place..];
+        require(rest.len() >= CHUNK_HEADER, number::CUT_SHORT, place)?;
+        let size = size_at(rest, 0);
+        require(size >= CHUNK_HEADER, number::SIZE_TOO_SMALL, place)?;
+        require(size <= rest.len(), number::CUT_SHORT, place)?;
+        Ok(SubChunk { kind: word_at(rest, 4), size })
+    }
+
+    /// A body's fault is placed at "the offset .. of the chunk header at fault".
+    fn fault(&self, number: u32, place: usize) -> Refusal {
+        Refusal::new(number, place)
+    }
+
+    /// "Reading covers kinds 4, 7, 11, 12, 13, 15 and 16. Kind 18 .. and unknown kinds are stepped over." From here on
+    /// the error is a refusal's number.
+    fn act(&self, kind: u16, data: &mut Data, screen: &mut Screen) -> Result<(), u32> {
+        match kind {
+            kind::COLOR256 | kind::COLOR => self.colour(kind, data, screen),
+            kind::SS2 => self.ss2(data, screen),
+            kind::LC => self.lc(data, screen),
+            kind::BLACK => self.black(screen),
+            kind::BRUN => self.brun(data, screen),
+            kind::COPY => self.copy(data, screen),
+            _ => Ok(()),
+        }
+    }
+
+    /// "4, 11 colour. Packet count (2). Each packet: skip, count .. The index starts at 0, moves by the skip, then by the
+    /// count." Checks: "two bytes there (7)", then the packet's.
+    fn colour(&self, kind: u16, data: &mut Data, screen: &mut Screen) -> Result<(), u32> {
+        let packets = data.word()?;
+        let mut index = 0;
+        for _ in 0..packets {
+            let (skip, count) = data.two()?;
+            let first = index + skip as usize;
+            index = first + self.colour_count(count);
+            self.colour_packet(kind, data, first..index, screen)?;
+        }
+        Ok(())
+    }
+
+    /// "count (0 means 256)".
+    fn colour_count(&self, stored: u8) -> usize {
+        match stored {
+            0 => 256,
+            _ => stored as usize,
+        }
+    }
+
+    /// "three bytes a colour"; "index (12), colours there (7), levels (13, kind 11)".
+    fn colour_packet(
+        &self,
+        kind: u16,
+        data: &mut Data,
+        entries: std::ops::Range<usize>,
+        screen: &mut Screen,
+    ) -> Result<(), u32> {
+        if entries.end > COLOURS {
+            return Err(number::PAST_LAST_COLOUR);
+        }
+        let stored = data.take(3 * entries.len())?;
+        self.levels(kind, stored)?;
+        for (component, level) in screen.palette[3 * entries.start..3 * entries.end].iter_mut().zip(stored) {
+            *component = self.component(kind, *level);
+        }
+        Ok(())
+    }
+
+    /// 13: "a kind 11 component over 63".
+    fn levels(&self, kind: u16, stored: &[u8]) -> Result<(), u32> {
+        if kind == kind::COLOR && stored.iter().any(|level| *level > TOP_LEVEL) {
+            return Err(number::LEVEL_OVER_63);
+        }
+        Ok(())
+    }
+
+    /// "Kind 11 stores each component times 4."
+    fn component(&self, kind: u16, level: u8) -> u8 {
+        match kind {
+            kind::COLOR => level.wrapping_mul(4),
+            _ => level,
+        }
+    }
+
+    /// "13 BLACK sets all pixels 0."
+    fn black(&self, screen: &mut Screen) -> Result<(), u32> {
+        let pixels = screen.width * screen.height;
+        screen.picture[..pixels].fill(0);
+        Ok(())
+    }
+
+    /// "16 COPY holds width times height pixels."
+    fn copy(&self, data: &mut Data, screen: &mut Screen) -> Result<(), u32> {
+        let pixels = data.take(screen.width * screen.height)?;
+        screen.put(0, 0, pixels);
+        Ok(())
+    }
+
+    /// "15 BRUN. Every row: one ignored byte, then packets until the width is reached." Checks: "byte there (7), zero
+    /// (8), width (9), data (7)".
+    fn brun(&self, data: &mut Data, screen: &mut Screen) -> Result<(), u32> {
+        for row in 0..screen.height {
+            data.byte()?;
+            let mut x = 0;
+            while x < screen.width {
+                let packet = self.brun_type(data.byte()? as i8)?;
+                let pixels = self.pixels(&packet, 1, data, x + packet.count, screen.width)?;
+                screen.put(row, x, &pixels);
+                x += packet.count;
+            }
+        }
+        Ok(())
+    }
+
+    /// "A signed type byte: n from 1 to 127 repeats one pixel n times; minus n, to minus 128, copies n pixels."
+    fn brun_type(&self, signed: i8) -> Result<Packet, u32> {
+        match signed {
+            0 => Err(number::EMPTY_BRUN_PACKET),
+            _ => Ok(Packet { repeats: signed > 0, count: signed.unsigned_abs() as usize }),
+        }
+    }
+
+    /// "12 LC. First row (2), row count (2) .. Each row: starting x, packet count." Checks: "two bytes (7, also for each
+    /// word and row start)".
+    fn lc(&self, data: &mut Data, screen: &mut Screen) -> Result<(), u32> {
+        let (first, count) = (data.word()? as usize, data.word()? as usize);
+        self.lc_rows(first, count, screen.height)?;
+        for row in first..first + count {
+            let (x, packets) = data.two()?;
+            self.lc_row(data, screen, row, x as usize, packets)?;
+        }
+        Ok(())
+    }
+
+    /// "if their sum is over the height, 10".
+    fn lc_rows(&self, first: usize, count: usize, height: usize) -> Result<(), u32> {
+        if first + count > height {
+            return Err(number::PAST_HEIGHT);
+        }
+        Ok(())
+    }
+
+    fn lc_row(&self, data: &mut Data, screen: &mut Screen, row: usize, start: usize, packets: u8) -> Result<(), u32> {
+        let mut x = start;
+        for _ in 0..packets {
+            x = self.delta_packet(data, screen, row, x, 1)?;
+        }
+        Ok(())
+    }
+
+    /// A packet of LC, whose unit is a pixel, or of SS2, whose unit is a pair: "skip in pixels, signed type". Gives the
+    /// column after it.
+    fn delta_packet(
+        &self,
+        data: &mut Data,
+        screen: &mut Screen,
+        row: usize,
+        x: usize,
+        unit: usize,
+    ) -> Result<usize, u32> {
+        let (skip, kind) = data.two()?;
+        let from = x + skip as usize;
+        let packet = self.delta_type(kind as i8)?;
+        let after = from + packet.count * unit;
+        let pixels = self.pixels(&packet, unit, data, after, screen.width)?;
+        screen.put(row, from, &pixels);
+        Ok(after)
+    }
+
+    /// "n of 0 or more copies n pixels [pairs], minus n repeats one".
+    fn delta_type(&self, signed: i8) -> Result<Packet, u32> {
+        Ok(Packet { repeats: signed < 0, count: signed.unsigned_abs() as usize })
+    }
+
+    /// "x after skip and pixels (9), data (7)": the pixels of a packet that ends before the column `after`.
+    fn pixels(
+        &self,
+        packet: &Packet,
+        unit: usize,
+        data: &mut Data,
+        after: usize,
+        width: usize,
+    ) -> Result<Vec<u8>, u32> {
+        if after > width {
+            return Err(number::PAST_WIDTH);
+        }
+        Ok(if packet.repeats {
+            data.take(unit)?.repeat(packet.count)
+        } else {
+            data.take(packet.count * unit)?.to_vec()
+        })
+    }
+
+    /// "7 SS2. Line count (2), starting at row 0." "A packet count ends the line and moves down one row."
+    fn ss2(&self, data: &mut Data, screen: &mut Screen) -> Result<(), u32> {
+        let lines = data.word()?;
+        let mut row = 0;
+        for _ in 0..lines {
+            row = self.ss2_line(data, screen, row)? + 1;
+        }
+        Ok(())
+    }
+
+    /// The words of one line; "a word that isn't there is 7, before 11, and 11 before 10". Gives the row of its packets.
+    fn ss2_line(&self, data: &mut Data, screen: &mut Screen, first_row: usize) -> Result<usize, u32> {
+        let mut line = Line { first_row, row: first_row, height: screen.height, last_pixel: None };
+        loop {
+            match self.ss2_word(data.word()?, &line)? {
+                Ss2Word::SkipDown(rows) => self.skip_down(&mut line, rows)?,
+                Ss2Word::LastPixel(pixel) => {
+                    line.row_is_there()?;
+                    self.last_pixel(screen, line.row, pixel);
+                    line.last_pixel = Some(pixel);
+                }
+                Ss2Word::PacketCount(packets) => {
+                    line.row_is_there()?;
+                    self.ss2_packets(data, screen, &line, packets)?;
+                    return Ok(line.row);
+                }
+            }
+        }
+    }
+
+    /// "The two high bits of each word decide what it is: 00 packet count, 10 last pixel .., 11 skip down by the absolute
+    /// value as a signed word, 01 refused." 11: "high bits 01, or no packet count after a last-pixel word".
+    fn ss2_word(&self, word: u16, line: &Line) -> Result<Ss2Word, u32> {
+        match word >> 14 {
+            0 => Ok(Ss2Word::PacketCount(word as usize)),
+            2 if line.last_pixel.is_none() => Ok(Ss2Word::LastPixel(word as u8)),
+            3 if line.last_pixel.is_none() => Ok(Ss2Word::SkipDown((word as i16).unsigned_abs() as usize)),
+            _ => Err(number::BAD_SS2_WORD),
+        }
+    }
+
+    /// "A skip that reaches a row at or past the height .. is refusal 10."
+    fn skip_down(&self, line: &mut Line, rows: usize) -> Result<(), u32> {
+        line.row += rows;
+        line.row_is_there()
+    }
+
+    /// "low byte goes to column width - 1, at any width".
+    fn last_pixel(&self, screen: &mut Screen, row: usize, pixel: u8) {
+        screen.put(row, screen.width - 1, &[pixel]);
+    }
+
+    /// "Packets act after the last-pixel word."
+    fn ss2_packets(&self, data: &mut Data, screen: &mut Screen, line: &Line, packets: usize) -> Result<(), u32> {
+        let mut x = 0;
+        for _ in 0..packets {
+            x = self.delta_packet(data, screen, line.row, x, 2)?;
+        }
+        Ok(())
+    }
 }
 
-/// Every mistake that `read_frame_with` can make.
-pub const MISTAKES: [Mistake; 30] = [
-    Mistake::BrunSignOfLc,
-    Mistake::Ss2SkipAsPairs,
-    Mistake::SlicesBeforeSize,
-    Mistake::TouchesNothing,
-    Mistake::FixedPicture,
-    Mistake::RefusesEverything,
-    Mistake::DataBeforeWidth,
-    Mistake::RowBeforeHighBits,
-    Mistake::RowSkipUnchecked,
-    Mistake::LastPixelAfterPackets,
-    Mistake::LastPixelTwice,
-    Mistake::LevelsUnchecked,
-    Mistake::LevelsAsTheyStand,
-    Mistake::LevelsBeforeColours,
-    Mistake::ColourCountZeroIsNone,
-    Mistake::LcFirstRowUnchecked,
-    Mistake::LcStartChecked,
-    Mistake::PlaceOfFrame,
-    Mistake::BlackPastPicture,
-    Mistake::KeepsHalfReadFrame,
-    Mistake::SubChunksPastFrame,
-    Mistake::KindOfOneByte,
-    Mistake::FrameSizeBeforeType,
-    Mistake::BrunMinus128Refused,
-    Mistake::DeltaMinus128Refused,
-    Mistake::Ss2CountOfOneByte,
-    Mistake::ChunkCountOfOneByte,
-    Mistake::LastPixelAtOddOnly,
-    Mistake::EmptyPacketAtWidthRefused,
-    Mistake::RowSkipOnceOnly,
-];
-
-/// Reads one frame against the picture and palette lent; a refusal leaves both as found.
-pub fn read_frame(
-    bytes: &[u8],
-    width: u64,
-    height: u64,
-    picture: &mut [u8],
-    palette: &mut [u8],
-) -> Result<(), Refusal> {
-    read_frame_with(Mistake::None, bytes, width, height, picture, palette)
+pub struct FrameHeader {
+    pub end: usize,
+    pub count: u16,
 }
 
-/// `read_frame` with one mistake in it, or none.
-pub fn read_frame_with(
-    mistake: Mistake,
-    bytes: &[u8],
-    width: u64,
-    height: u64,
-    picture: &mut [u8],
-    palette: &mut [u8],
-) -> Result<(), Refusal> {
-    if mistake == Mistake::RefusesEverything {
-        return Err(Refusal::new(number::CUT_SHORT, 0));
-    }
-    if mistake == Mistake::SlicesBeforeSize {
-        let pixels = width.saturating_mul(height) as usize;
-        long_enough(pixels, &[picture], &[palette])?;
-    }
-    let (columns, rows) = accepted_size(width, height)?;
-    long_enough(columns * rows, &[picture], &[palette])?;
-    let mut screen =
-        Screen { mistake, width: columns, height: rows, picture: picture.to_vec(), palette: palette.to_vec() };
-    let outcome = screen.play(bytes);
-    if mistake == Mistake::FixedPicture {
-        screen.picture[..columns * rows].fill(0);
-    }
-    let keeps = match mistake {
-        Mistake::TouchesNothing => false,
-        Mistake::KeepsHalfReadFrame => true,
-        _ => outcome.is_ok(),
-    };
-    if keeps {
-        picture.copy_from_slice(&screen.picture);
-        palette.copy_from_slice(&screen.palette);
-    }
-    outcome
+pub struct SubChunk {
+    pub kind: u16,
+    pub size: usize,
 }
 
-/// The little-endian word at an offset that must be there.
-pub fn word_at(bytes: &[u8], offset: usize) -> u16 {
-    u16::from_le_bytes([bytes[offset], bytes[offset + 1]])
+/// What a type byte says.
+pub struct Packet {
+    pub repeats: bool,
+    pub count: usize,
 }
 
-/// The little-endian double word at an offset that must be there.
-pub fn size_at(bytes: &[u8], offset: usize) -> usize {
-    let low = word_at(bytes, offset) as usize;
-    let high = word_at(bytes, offset + 2) as usize;
-    high << 16 | low
+pub enum Ss2Word {
+    PacketCount(usize),
+    LastPixel(u8),
+    SkipDown(usize),
 }
 
-struct FrameHeader {
-    end: usize,
-    count: u16,
+/// How far a line has come.
+pub struct Line {
+    pub first_row: usize,
+    pub row: usize,
+    pub height: usize,
+    pub last_pixel: Option<u8>,
 }
 
-fn frame_header(bytes: &[u8], mistake: Mistake) -> Result<FrameHeader, Refusal> {
-    if bytes.len() < FRAME_HEADER {
-        return Err(Refusal::new(number::CUT_SHORT, 0));
+impl Line {
+    /// "a last-pixel word or packet count that stands on [a row at or past the height], is refusal 10".
+    pub fn row_is_there(&self) -> Result<(), u32> {
+        if self.row >= self.height {
+            return Err(number::PAST_HEIGHT);
+        }
+        Ok(())
     }
-    let end = size_at(bytes, 0);
-    if mistake == Mistake::FrameSizeBeforeType && end < FRAME_HEADER {
-        return Err(Refusal::new(number::SIZE_TOO_SMALL, 0));
-    }
-    if word_at(bytes, 4) != FRAME_TYPE {
-        return Err(Refusal::new(number::WRONG_TYPE, 0));
-    }
-    if end < FRAME_HEADER {
-        return Err(Refusal::new(number::SIZE_TOO_SMALL, 0));
-    }
-    if end > bytes.len() {
-        return Err(Refusal::new(number::CUT_SHORT, 0));
-    }
-    Ok(FrameHeader { end, count: word_at(bytes, 6) })
 }
 
-struct SubChunk<'a> {
-    kind: u16,
-    size: usize,
-    body: &'a [u8],
-}
-
-/// The sub-chunk that begins at `place`, within the bytes that enclose it.
-fn sub_chunk(enclosing: &[u8], place: usize) -> Result<SubChunk<'_>, Refusal> {
-    let rest = &enclosing[place..];
-    if rest.len() < CHUNK_HEADER {
-        return Err(Refusal::new(number::CUT_SHORT, place));
-    }
-    let size = size_at(rest, 0);
-    if size < CHUNK_HEADER {
-        return Err(Refusal::new(number::SIZE_TOO_SMALL, place));
-    }
-    if size > rest.len() {
-        return Err(Refusal::new(number::CUT_SHORT, place));
-    }
-    Ok(SubChunk { kind: word_at(rest, 4), size, body: &rest[CHUNK_HEADER..size] })
-}
-
-/// What is left of a body. Each taking gives the refusal number 7 where the body ends too early.
-struct Data<'a> {
-    rest: &'a [u8],
+/// What is left of a body. Each taking gives 7 where "a chunk's body ends before its data".
+pub struct Data<'a> {
+    pub rest: &'a [u8],
 }
 
 impl<'a> Data<'a> {
-    fn take(&mut self, count: usize) -> Result<&'a [u8], u32> {
+    pub fn take(&mut self, count: usize) -> Result<&'a [u8], u32> {
         if count > self.rest.len() {
             return Err(number::BODY_ENDS);
         }
@@ -211,304 +379,15 @@ impl<'a> Data<'a> {
     }
 }
 
-/// The meaning of an SS2 word, by its two high bits.
-enum Ss2Word {
-    PacketCount(usize),
-    Bad,
-    LastPixel(u8),
-    SkipDown(usize),
-}
-
-fn ss2_word(word: u16) -> Ss2Word {
-    match word >> 14 {
-        0 => Ss2Word::PacketCount(word as usize),
-        1 => Ss2Word::Bad,
-        2 => Ss2Word::LastPixel(word as u8),
-        _ => Ss2Word::SkipDown((word as i16).unsigned_abs() as usize),
-    }
-}
-
 /// Copies of the whole lent slices, on which a frame is tried out.
-struct Screen {
-    mistake: Mistake,
-    width: usize,
-    height: usize,
-    picture: Vec<u8>,
-    palette: Vec<u8>,
+pub struct Screen {
+    pub width: usize,
+    pub height: usize,
+    pub picture: Vec<u8>,
+    pub palette: Vec<u8>,
 }
 
 impl Screen {
-    fn play(&mut self, bytes: &[u8]) -> Result<(), Refusal> {
-        let header = frame_header(bytes, self.mistake)?;
-        let enclosing = match self.mistake {
-            Mistake::SubChunksPastFrame => bytes,
-            _ => &bytes[..header.end],
-        };
-        let count = match self.mistake {
-            Mistake::ChunkCountOfOneByte => header.count & 0xFF,
-            _ => header.count,
-        };
-        let mut place = FRAME_HEADER;
-        for _ in 0..count {
-            let chunk = sub_chunk(enclosing, place)?;
-            self.act(&chunk).map_err(|number| self.body_refusal(number, place))?;
-            place += chunk.size;
-        }
-        Ok(())
-    }
-
-    fn body_refusal(&self, number: u32, place: usize) -> Refusal {
-        match self.mistake {
-            Mistake::PlaceOfFrame => Refusal::new(number, 0),
-            _ => Refusal::new(number, place),
-        }
-    }
-
-    /// Lets one sub-chunk act; the error is the refusal's number.
-    fn act(&mut self, chunk: &SubChunk) -> Result<(), u32> {
-        let mut data = Data { rest: chunk.body };
-        let kind = match self.mistake {
-            Mistake::KindOfOneByte => chunk.kind & 0xFF,
-            _ => chunk.kind,
-        };
-        match kind {
-            kind::COLOR256 => self.colour(&mut data, false),
-            kind::COLOR => self.colour(&mut data, true),
-            kind::SS2 => self.ss2(&mut data),
-            kind::LC => self.lc(&mut data),
-            kind::BLACK => self.black(),
-            kind::BRUN => self.brun(&mut data),
-            kind::COPY => self.copy(&mut data),
-            _ => Ok(()),
-        }
-    }
-
-    fn colour(&mut self, data: &mut Data, of_64_levels: bool) -> Result<(), u32> {
-        let packets = data.word()?;
-        let mut index = 0;
-        for _ in 0..packets {
-            let (skip, count) = data.two()?;
-            index += skip as usize;
-            index = self.colour_packet(data, index, self.colour_count(count), of_64_levels)?;
-        }
-        Ok(())
-    }
-
-    fn colour_count(&self, stored: u8) -> usize {
-        match stored {
-            0 if self.mistake == Mistake::ColourCountZeroIsNone => 0,
-            0 => COLOURS,
-            count => count as usize,
-        }
-    }
-
-    /// Sets `count` entries from `index` on, and gives the index after them.
-    fn colour_packet(&mut self, data: &mut Data, index: usize, count: usize, of_64_levels: bool) -> Result<usize, u32> {
-        let after = index + count;
-        if after > COLOURS {
-            return Err(number::PAST_LAST_COLOUR);
-        }
-        if self.mistake == Mistake::LevelsBeforeColours && of_64_levels {
-            self.check_levels(&data.rest[..data.rest.len().min(3 * count)])?;
-        }
-        let stored = data.take(3 * count)?;
-        if of_64_levels {
-            self.check_levels(stored)?;
-        }
-        let times = if of_64_levels && self.mistake != Mistake::LevelsAsTheyStand { 4 } else { 1 };
-        for (component, level) in self.palette[3 * index..3 * after].iter_mut().zip(stored) {
-            *component = level.wrapping_mul(times);
-        }
-        Ok(after)
-    }
-
-    fn check_levels(&self, levels: &[u8]) -> Result<(), u32> {
-        let over = levels.iter().any(|level| *level > TOP_LEVEL);
-        if over && self.mistake != Mistake::LevelsUnchecked {
-            return Err(number::LEVEL_OVER_63);
-        }
-        Ok(())
-    }
-
-    fn black(&mut self) -> Result<(), u32> {
-        let cleared = match self.mistake {
-            Mistake::BlackPastPicture => self.picture.len(),
-            _ => self.width * self.height,
-        };
-        self.picture[..cleared].fill(0);
-        Ok(())
-    }
-
-    fn copy(&mut self, data: &mut Data) -> Result<(), u32> {
-        let pixels = data.take(self.width * self.height)?;
-        self.put(0, 0, pixels);
-        Ok(())
-    }
-
-    fn brun(&mut self, data: &mut Data) -> Result<(), u32> {
-        for row in 0..self.height {
-            data.byte()?;
-            let mut x = 0;
-            while x < self.width {
-                x = self.brun_packet(data, row, x)?;
-            }
-        }
-        Ok(())
-    }
-
-    fn brun_packet(&mut self, data: &mut Data, row: usize, x: usize) -> Result<usize, u32> {
-        let signed = data.byte()? as i8;
-        if signed == 0 || (signed == i8::MIN && self.mistake == Mistake::BrunMinus128Refused) {
-            return Err(number::EMPTY_BRUN_PACKET);
-        }
-        let repeats = (signed > 0) != (self.mistake == Mistake::BrunSignOfLc);
-        let count = signed.unsigned_abs() as usize;
-        let after = x + count;
-        let pixels = self.packet_pixels(data, after, repeats, count, 1)?;
-        self.put(row, x, &pixels);
-        Ok(after)
-    }
-
-    fn lc(&mut self, data: &mut Data) -> Result<(), u32> {
-        let first = data.word()? as usize;
-        let count = data.word()? as usize;
-        let past = first + count > self.height;
-        if past && !(count == 0 && self.mistake == Mistake::LcFirstRowUnchecked) {
-            return Err(number::PAST_HEIGHT);
-        }
-        for row in first..first + count {
-            let (start, packets) = data.two()?;
-            self.lc_row(data, row, start as usize, packets)?;
-        }
-        Ok(())
-    }
-
-    fn lc_row(&mut self, data: &mut Data, row: usize, start: usize, packets: u8) -> Result<(), u32> {
-        if self.mistake == Mistake::LcStartChecked && start > self.width {
-            return Err(number::PAST_WIDTH);
-        }
-        let mut x = start;
-        for _ in 0..packets {
-            x = self.delta_packet(data, row, x, 1)?;
-        }
-        Ok(())
-    }
-
-    fn ss2(&mut self, data: &mut Data) -> Result<(), u32> {
-        let lines = data.word()?;
-        let mut row = 0;
-        for _ in 0..lines {
-            row = self.ss2_line(data, row)? + 1;
-        }
-        Ok(())
-    }
-
-    /// Reads one counted line, and gives the row on which its packets stood.
-    fn ss2_line(&mut self, data: &mut Data, first_row: usize) -> Result<usize, u32> {
-        let mut row = first_row;
-        let mut last_pixel = None;
-        loop {
-            let word = ss2_word(data.word()?);
-            if self.mistake == Mistake::RowBeforeHighBits && matches!(word, Ss2Word::Bad) {
-                self.row_is_there(row)?;
-            }
-            match word {
-                Ss2Word::PacketCount(packets) => {
-                    self.row_is_there(row)?;
-                    self.ss2_packets(data, row, packets)?;
-                    if self.mistake == Mistake::LastPixelAfterPackets {
-                        self.put_last_pixel(row, last_pixel);
-                    }
-                    return Ok(row);
-                }
-                Ss2Word::LastPixel(pixel) if last_pixel.is_none() || self.mistake == Mistake::LastPixelTwice => {
-                    self.row_is_there(row)?;
-                    last_pixel = Some(pixel);
-                    self.put_last_pixel(row, last_pixel);
-                }
-                Ss2Word::SkipDown(rows) if last_pixel.is_none() => {
-                    if self.mistake == Mistake::RowSkipOnceOnly && row > first_row {
-                        return Err(number::BAD_SS2_WORD);
-                    }
-                    row += rows;
-                    if self.mistake != Mistake::RowSkipUnchecked {
-                        self.row_is_there(row)?;
-                    }
-                }
-                _ => return Err(number::BAD_SS2_WORD),
-            }
-        }
-    }
-
-    fn row_is_there(&self, row: usize) -> Result<(), u32> {
-        if row >= self.height {
-            return Err(number::PAST_HEIGHT);
-        }
-        Ok(())
-    }
-
-    fn put_last_pixel(&mut self, row: usize, pixel: Option<u8>) {
-        if self.mistake == Mistake::LastPixelAtOddOnly && self.width.is_multiple_of(2) {
-            return;
-        }
-        if let Some(pixel) = pixel {
-            self.put(row, self.width - 1, &[pixel]);
-        }
-    }
-
-    fn ss2_packets(&mut self, data: &mut Data, row: usize, packets: usize) -> Result<(), u32> {
-        let packets = match self.mistake {
-            Mistake::Ss2CountOfOneByte => packets & 0xFF,
-            _ => packets,
-        };
-        let mut x = 0;
-        for _ in 0..packets {
-            x = self.delta_packet(data, row, x, 2)?;
-        }
-        Ok(())
-    }
-
-    /// A packet of LC (units of one pixel) or SS2 (units of two); gives the column after it.
-    fn delta_packet(&mut self, data: &mut Data, row: usize, x: usize, unit: usize) -> Result<usize, u32> {
-        let (skip, kind) = data.two()?;
-        let signed = kind as i8;
-        let count = signed.unsigned_abs() as usize;
-        let skip_unit = if self.mistake == Mistake::Ss2SkipAsPairs { unit } else { 1 };
-        let from = x + skip as usize * skip_unit;
-        let after = from + count * unit;
-        let refused_by_mistake = match self.mistake {
-            Mistake::DeltaMinus128Refused => signed == i8::MIN,
-            Mistake::EmptyPacketAtWidthRefused => signed == 0 && after == self.width,
-            _ => false,
-        };
-        if refused_by_mistake {
-            return Err(number::PAST_WIDTH);
-        }
-        let pixels = self.packet_pixels(data, after, signed < 0, count, unit)?;
-        self.put(row, from, &pixels);
-        Ok(after)
-    }
-
-    /// Checks the width and then the data of a packet that ends before column `after`, and gives its pixels.
-    fn packet_pixels(
-        &self,
-        data: &mut Data,
-        after: usize,
-        repeats: bool,
-        count: usize,
-        unit: usize,
-    ) -> Result<Vec<u8>, u32> {
-        let too_wide = after > self.width;
-        if too_wide && self.mistake != Mistake::DataBeforeWidth {
-            return Err(number::PAST_WIDTH);
-        }
-        let stored = data.take(if repeats { unit } else { count * unit })?;
-        if too_wide {
-            return Err(number::PAST_WIDTH);
-        }
-        Ok(if repeats { stored.repeat(count) } else { stored.to_vec() })
-    }
-
     fn put(&mut self, row: usize, x: usize, pixels: &[u8]) {
         let start = row * self.width + x;
         self.picture[start..start + pixels.len()].copy_from_slice(pixels);
@@ -531,7 +410,8 @@ mod tests {
     fn read(bytes: &[u8], width: usize, height: usize) -> Read {
         let mut picture = vec![FILL; width * height];
         let mut palette = vec![FILL; PALETTE_BYTES];
-        let answer = read_frame(bytes, width as u64, height as u64, &mut picture, &mut palette);
+        let shown = PairMut { picture: &mut picture, palette: &mut palette };
+        let answer = Document.read_frame(bytes, width as u64, height as u64, shown);
         Read { answer, picture, palette }
     }
 
@@ -691,8 +571,8 @@ mod tests {
     #[test]
     fn size_before_slices_before_bytes() {
         let answer = |width, height, picture: usize, palette: usize| {
-            read_frame(&[], width, height, &mut vec![0; picture], &mut vec![0; palette])
-                .map_err(|refusal| refusal.number)
+            let shown = PairMut { picture: &mut vec![0; picture], palette: &mut vec![0; palette] };
+            Document.read_frame(&[], width, height, shown).map_err(|refusal| refusal.number)
         };
         assert_eq!(answer(0, 1, 0, 0), Err(2));
         assert_eq!(answer(321, 1, 0, 0), Err(2));

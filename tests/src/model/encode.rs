@@ -1,230 +1,92 @@
-//! The model's writer: document 01's "House form of a frame", and the rewriting of a frame in it.
+//! Writing one frame: document 01's "House form of a frame", and the rewriting of a frame in it.
 
-use super::decode::read_frame;
-use super::{accepted_size, kind, long_enough, number, Refusal, CHUNK_HEADER, FRAME_HEADER, FRAME_TYPE, PALETTE_BYTES};
+use super::{
+    accepted_size, kind, long_enough, number, require, Document, Model, Refusal, CHUNK_HEADER, FRAME_HEADER,
+    FRAME_TYPE, PALETTE_BYTES,
+};
 use flic_boundary::{Pair, PairMut};
 
 const MOST_REPEATED: usize = 127;
 const MOST_COPIED: usize = 128;
-const MOST_PAIRS: usize = 127;
 const MOST_SKIPPED: usize = 254;
 
-/// A mistake made on purpose, with which a comparison shows that it can fail.
-#[derive(Clone, Copy, Debug, PartialEq, Eq)]
-pub enum Mistake {
-    None,
-    AlwaysCopy,
-    RepeatAtEveryEqualPair,
-    TieForCopy,
-    TieForShortest,
-    CopyBeforeBrun,
-    IgnoredByteZero,
-    DeltaWhenAsLong,
-    NeverDelta,
-    LastColumnLeftOut,
-    SinglePairRepeated,
-    GapOf255,
-    SkipAfterLastRow,
-    ColoursInOnePacket,
-    ColourAfterPicture,
-    StaleWorkWhenShort,
-    WorkSetWhenRefused,
-    ShortOutputBeforeFrame,
-    SlicesBeforeSize,
-    WritesWhenShort,
-    PairsUpTo126,
-    BrunCopyUpTo127,
-    BrunRepeatUpTo126,
-    FirstPixelOfPairOnly,
-}
+impl House for Document {}
 
-/// Every mistake that writing a frame can show.
-pub const WRITE_MISTAKES: [Mistake; 20] = [
-    Mistake::AlwaysCopy,
-    Mistake::RepeatAtEveryEqualPair,
-    Mistake::TieForCopy,
-    Mistake::TieForShortest,
-    Mistake::CopyBeforeBrun,
-    Mistake::IgnoredByteZero,
-    Mistake::DeltaWhenAsLong,
-    Mistake::NeverDelta,
-    Mistake::LastColumnLeftOut,
-    Mistake::SinglePairRepeated,
-    Mistake::GapOf255,
-    Mistake::SkipAfterLastRow,
-    Mistake::ColoursInOnePacket,
-    Mistake::ColourAfterPicture,
-    Mistake::SlicesBeforeSize,
-    Mistake::WritesWhenShort,
-    Mistake::PairsUpTo126,
-    Mistake::BrunCopyUpTo127,
-    Mistake::BrunRepeatUpTo126,
-    Mistake::FirstPixelOfPairOnly,
-];
-
-/// Every mistake that only rewriting a frame can show.
-pub const REWRITE_MISTAKES: [Mistake; 3] =
-    [Mistake::StaleWorkWhenShort, Mistake::WorkSetWhenRefused, Mistake::ShortOutputBeforeFrame];
-
-/// The house frame that leads from `previous` to `next`, of which no slice is too short.
-pub fn house_frame(width: usize, height: usize, previous: Pair, next: Pair) -> Vec<u8> {
-    House { mistake: Mistake::None, width, height }.frame(previous, next)
-}
-
-/// Writes the house frame that leads from `previous` to `next`, and gives its length.
-pub fn write_frame(width: u64, height: u64, previous: Pair, next: Pair, out: &mut [u8]) -> Result<usize, Refusal> {
-    write_frame_with(Mistake::None, width, height, previous, next, out)
-}
-
-/// `write_frame` with one mistake in it, or none.
-pub fn write_frame_with(
-    mistake: Mistake,
-    width: u64,
-    height: u64,
-    previous: Pair,
-    next: Pair,
-    out: &mut [u8],
-) -> Result<usize, Refusal> {
-    let pictures = [previous.picture, next.picture];
-    let palettes = [previous.palette, next.palette];
-    let (columns, rows) = checked(mistake, width, height, &pictures, &palettes)?;
-    let frame = House { mistake, width: columns, height: rows }.frame(previous, next);
-    store(mistake, &frame, out)
-}
-
-/// Rewrites a frame in house form; the working pair holds the next state when done or refused 3.
-pub fn rewrite_frame(
-    bytes: &[u8],
-    width: u64,
-    height: u64,
-    previous: Pair,
-    work: PairMut,
-    out: &mut [u8],
-) -> Result<usize, Refusal> {
-    rewrite_frame_with(Mistake::None, bytes, width, height, previous, work, out)
-}
-
-/// `rewrite_frame` with one mistake in it, or none.
-pub fn rewrite_frame_with(
-    mistake: Mistake,
-    bytes: &[u8],
-    width: u64,
-    height: u64,
-    previous: Pair,
-    work: PairMut,
-    out: &mut [u8],
-) -> Result<usize, Refusal> {
-    let pictures = [previous.picture, &*work.picture];
-    let palettes = [previous.palette, &*work.palette];
-    let (columns, rows) = checked(mistake, width, height, &pictures, &palettes)?;
-    if mistake == Mistake::ShortOutputBeforeFrame && out.len() < FRAME_HEADER {
-        return Err(Refusal::new(number::SHORT_OUTPUT, 0));
+pub trait House {
+    /// "Writing: 18, 2, 1, 3." Gives the frame's length.
+    fn write_frame(
+        &self,
+        width: u64,
+        height: u64,
+        previous: Pair,
+        next: Pair,
+        out: &mut [u8],
+    ) -> Result<usize, Refusal> {
+        let pictures = [previous.picture, next.picture];
+        let (columns, rows) = self.checked(width, height, &pictures, &[previous.palette, next.palette])?;
+        self.store(&self.frame(columns, rows, previous, next), out)
     }
-    let pixels = columns * rows;
-    let mut picture = previous.picture[..pixels].to_vec();
-    let mut palette = previous.palette[..PALETTE_BYTES].to_vec();
-    let reading = read_frame(bytes, width, height, &mut picture, &mut palette);
-    let next = Pair { picture: &picture, palette: &palette };
-    let written = match reading {
-        Err(refusal) => Err(refusal),
-        Ok(()) => store(mistake, &House { mistake, width: columns, height: rows }.frame(previous, next), out),
-    };
-    let sets_work = match mistake {
-        Mistake::StaleWorkWhenShort => written.is_ok(),
-        Mistake::WorkSetWhenRefused => true,
-        _ => reading.is_ok(),
-    };
-    if sets_work {
-        work.picture[..pixels].copy_from_slice(&picture);
-        work.palette[..PALETTE_BYTES].copy_from_slice(&palette);
-    }
-    written
-}
 
-fn checked(
-    mistake: Mistake,
-    width: u64,
-    height: u64,
-    pictures: &[&[u8]],
-    palettes: &[&[u8]],
-) -> Result<(usize, usize), Refusal> {
-    if mistake == Mistake::SlicesBeforeSize {
-        long_enough(width.saturating_mul(height) as usize, pictures, palettes)?;
-    }
-    let (columns, rows) = accepted_size(width, height)?;
-    long_enough(columns * rows, pictures, palettes)?;
-    Ok((columns, rows))
-}
-
-fn store(mistake: Mistake, frame: &[u8], out: &mut [u8]) -> Result<usize, Refusal> {
-    if out.len() < frame.len() {
-        if mistake == Mistake::WritesWhenShort {
-            let room = out.len();
-            out.copy_from_slice(&frame[..room]);
+    /// "a rewrite gives the frame's own refusals before 3".
+    #[allow(clippy::too_many_arguments)]
+    fn rewrite_frame(
+        &self,
+        model: &Model,
+        bytes: &[u8],
+        width: u64,
+        height: u64,
+        previous: Pair,
+        work: PairMut,
+        out: &mut [u8],
+    ) -> Result<usize, Refusal> {
+        let pictures = [previous.picture, &*work.picture];
+        let (columns, rows) = self.checked(width, height, &pictures, &[previous.palette, &*work.palette])?;
+        let pixels = columns * rows;
+        let (mut picture, mut palette) =
+            (previous.picture[..pixels].to_vec(), previous.palette[..PALETTE_BYTES].to_vec());
+        let shown = PairMut { picture: &mut picture, palette: &mut palette };
+        let answer = model.read_frame(bytes, width, height, shown).and_then(|()| {
+            let next = Pair { picture: &picture, palette: &palette };
+            self.store(&self.frame(columns, rows, previous, next), out)
+        });
+        if self.sets_pair(&answer) {
+            work.picture[..pixels].copy_from_slice(&picture);
+            work.palette[..PALETTE_BYTES].copy_from_slice(&palette);
         }
-        return Err(Refusal::new(number::SHORT_OUTPUT, 0));
+        answer
     }
-    out[..frame.len()].copy_from_slice(frame);
-    Ok(frame.len())
-}
 
-fn push_word(bytes: &mut Vec<u8>, word: usize) {
-    let word = u16::try_from(word).expect("a word of the house form fits 16 bits");
-    bytes.extend(word.to_le_bytes());
-}
-
-fn push_size(bytes: &mut Vec<u8>, size: usize) {
-    let size = u32::try_from(size).expect("a size of the house form fits 32 bits");
-    bytes.extend(size.to_le_bytes());
-}
-
-fn as_byte(number: usize) -> u8 {
-    u8::try_from(number).expect("a number of the house form fits a byte")
-}
-
-/// Minus `number`, as a signed byte is stored.
-fn as_negative(number: usize) -> u8 {
-    as_byte(256 - number)
-}
-
-fn sub_chunk(kind: u16, body: &[u8]) -> Vec<u8> {
-    let mut bytes = Vec::new();
-    push_size(&mut bytes, CHUNK_HEADER + body.len());
-    push_word(&mut bytes, kind as usize);
-    bytes.extend(body);
-    bytes
-}
-
-/// The stretches of true, as (first, after the last).
-fn stretches(marks: &[bool]) -> Vec<(usize, usize)> {
-    let mut found = Vec::new();
-    let mut at = 0;
-    while at < marks.len() {
-        let end = at + marks[at..].iter().take_while(|mark| **mark == marks[at]).count();
-        if marks[at] {
-            found.push((at, end));
-        }
-        at = end;
+    /// "A rewrite's pair holds the next state when done or refused 3, else stays."
+    fn sets_pair(&self, answer: &Result<usize, Refusal>) -> bool {
+        !matches!(answer, Err(refusal) if refusal.number != number::SHORT_OUTPUT)
     }
-    found
-}
 
-/// The house form at one size.
-struct House {
-    mistake: Mistake,
-    width: usize,
-    height: usize,
-}
+    /// The checks 2 and 1.
+    fn checked(
+        &self,
+        width: u64,
+        height: u64,
+        pictures: &[&[u8]],
+        palettes: &[&[u8]],
+    ) -> Result<(usize, usize), Refusal> {
+        let (columns, rows) = accepted_size(width, height)?;
+        long_enough(columns * rows, pictures, palettes)?;
+        Ok((columns, rows))
+    }
 
-impl House {
-    fn frame(&self, previous: Pair, next: Pair) -> Vec<u8> {
-        let pixels = self.width * self.height;
+    /// 3: "the output is shorter than the bytes to be written".
+    fn store(&self, frame: &[u8], out: &mut [u8]) -> Result<usize, Refusal> {
+        require(frame.len() <= out.len(), number::SHORT_OUTPUT, 0)?;
+        out[..frame.len()].copy_from_slice(frame);
+        Ok(frame.len())
+    }
+
+    /// "Written from a previous and a next state; the 8 reserved bytes are 0".
+    fn frame(&self, width: usize, height: usize, previous: Pair, next: Pair) -> Vec<u8> {
+        let pixels = width * height;
         let colour = self.colour_chunk(&previous.palette[..PALETTE_BYTES], &next.palette[..PALETTE_BYTES]);
-        let picture = self.picture_chunk(&previous.picture[..pixels], &next.picture[..pixels]);
-        let mut chunks: Vec<Vec<u8>> = colour.into_iter().chain(picture).collect();
-        if self.mistake == Mistake::ColourAfterPicture {
-            chunks.reverse();
-        }
+        let picture = self.picture_chunk(width, &previous.picture[..pixels], &next.picture[..pixels]);
+        let chunks = self.in_order(colour, picture);
         let mut bytes = Vec::new();
         push_size(&mut bytes, FRAME_HEADER + chunks.iter().map(Vec::len).sum::<usize>());
         push_word(&mut bytes, FRAME_TYPE as usize);
@@ -234,14 +96,17 @@ impl House {
         bytes
     }
 
+    /// "at most two sub-chunks, colour first, none without a change".
+    fn in_order(&self, colour: Option<Vec<u8>>, picture: Option<Vec<u8>>) -> Vec<Vec<u8>> {
+        colour.into_iter().chain(picture).collect()
+    }
+
+    /// "Colour: kind 4".
     fn colour_chunk(&self, previous: &[u8], next: &[u8]) -> Option<Vec<u8>> {
         let changed: Vec<bool> = previous.chunks(3).zip(next.chunks(3)).map(|(old, new)| old != new).collect();
-        let mut packets = stretches(&changed);
+        let packets = self.colour_packets(&changed);
         if packets.is_empty() {
             return None;
-        }
-        if self.mistake == Mistake::ColoursInOnePacket {
-            packets = vec![(packets[0].0, packets[packets.len() - 1].1)];
         }
         let mut body = Vec::new();
         push_word(&mut body, packets.len());
@@ -255,56 +120,103 @@ impl House {
         Some(sub_chunk(kind::COLOR256, &body))
     }
 
-    fn picture_chunk(&self, previous: &[u8], next: &[u8]) -> Option<Vec<u8>> {
+    /// "one packet for each longest stretch of changed entries".
+    fn colour_packets(&self, changed: &[bool]) -> Vec<(usize, usize)> {
+        stretches(changed)
+    }
+
+    fn picture_chunk(&self, width: usize, previous: &[u8], next: &[u8]) -> Option<Vec<u8>> {
         if previous == next {
             return None;
         }
-        let full = self.full_chunk(next);
-        let delta = sub_chunk(kind::SS2, &self.ss2_body(previous, next));
-        let delta_is_used = match self.mistake {
-            Mistake::NeverDelta | Mistake::AlwaysCopy => false,
-            Mistake::DeltaWhenAsLong => delta.len() <= full.len(),
-            _ => delta.len() < full.len(),
-        };
-        Some(if delta_is_used { delta } else { full })
+        let full = self.full_chunk(width, next);
+        let delta = sub_chunk(kind::SS2, &self.ss2_body(width, previous, next));
+        Some(if self.uses_delta(delta.len(), full.len()) { delta } else { full })
     }
 
-    /// The shortest of BLACK, BRUN and COPY; a tie goes to the first of them.
-    fn full_chunk(&self, next: &[u8]) -> Vec<u8> {
-        let copy = sub_chunk(kind::COPY, next);
-        let brun = sub_chunk(kind::BRUN, &self.brun_body(next));
-        if self.mistake == Mistake::AlwaysCopy {
-            return copy;
-        }
-        let mut chunks = vec![brun, copy];
-        if self.mistake == Mistake::CopyBeforeBrun {
-            chunks.reverse();
-        }
-        if next.iter().all(|pixel| *pixel == 0) {
-            chunks.insert(0, sub_chunk(kind::BLACK, &[]));
-        }
-        chunks.into_iter().min_by_key(Vec::len).expect("COPY is always there")
+    /// "The delta is used when strictly shorter than the full chunk."
+    fn uses_delta(&self, delta: usize, full: usize) -> bool {
+        delta < full
     }
 
-    fn brun_body(&self, next: &[u8]) -> Vec<u8> {
+    /// "Shortest full chunk".
+    fn full_chunk(&self, width: usize, next: &[u8]) -> Vec<u8> {
+        self.full_chunks(width, next).into_iter().min_by_key(Vec::len).expect("COPY is always there")
+    }
+
+    /// "BLACK if the picture is all 0; COPY; BRUN"; "ties go to BLACK, BRUN, COPY".
+    fn full_chunks(&self, width: usize, next: &[u8]) -> Vec<Vec<u8>> {
+        let is_black = next.iter().all(|pixel| *pixel == 0);
+        let black = is_black.then(|| sub_chunk(kind::BLACK, &[]));
+        let (brun, copy) = (sub_chunk(kind::BRUN, &self.brun_body(width, next)), sub_chunk(kind::COPY, next));
+        black.into_iter().chain([brun, copy]).collect()
+    }
+
+    /// "BRUN with each row's packets of least total bytes".
+    fn brun_body(&self, width: usize, next: &[u8]) -> Vec<u8> {
         let mut body = Vec::new();
-        for row in next.chunks(self.width) {
-            let packets = brun_row(self.mistake, row);
-            body.push(match self.mistake {
-                Mistake::IgnoredByteZero => 0,
-                _ => packets.len().min(255) as u8,
-            });
+        for row in next.chunks(width) {
+            let packets = self.brun_row(row);
+            body.push(self.ignored_byte(packets.len()));
             body.extend(packets.iter().flat_map(|packet| packet.stored(row)));
         }
         body
     }
 
-    fn ss2_body(&self, previous: &[u8], next: &[u8]) -> Vec<u8> {
-        let rows = previous.chunks(self.width).zip(next.chunks(self.width));
+    /// "The ignored byte is the packet count, or 255 if less."
+    fn ignored_byte(&self, packets: usize) -> u8 {
+        packets.min(255) as u8
+    }
+
+    /// The packets of least total bytes, by a plain dynamic program from the row's end to its front.
+    fn brun_row(&self, row: &[u8]) -> Vec<BrunPacket> {
+        let mut least = vec![0; row.len() + 1];
+        let mut first = Vec::with_capacity(row.len());
+        for x in (0..row.len()).rev() {
+            let (total, packet) = self.first_packet(row, x, &least);
+            least[x] = total;
+            first.push(packet);
+        }
+        first.reverse();
+        follow(&first)
+    }
+
+    /// "Ties within a row, left to right: among first packets that begin a least encoding" .. Gives that encoding's bytes
+    /// and the packet that begins it at column `x`.
+    fn first_packet(&self, row: &[u8], x: usize, least: &[usize]) -> (usize, BrunPacket) {
+        let (most_repeated, most_copied) = self.most_brun();
+        let longer = |longer: usize, shorter: usize| self.prefers_longer(longer, shorter);
+        let equal = equal_pixels(row, x).min(most_repeated);
+        let (repeat, repeated) = least_total(equal, |count| 2 + least[x + count], longer);
+        let left = (row.len() - x).min(most_copied);
+        let (copy, copied) = least_total(left, |count| 1 + count + least[x + count], longer);
+        if self.prefers_repeat(repeat, copy) {
+            (repeat, BrunPacket { x, count: repeated, repeats: true })
+        } else {
+            (copy, BrunPacket { x, count: copied, repeats: false })
+        }
+    }
+
+    /// .. "a repeat before a copy", ..
+    fn prefers_repeat(&self, repeat: usize, copy: usize) -> bool {
+        repeat <= copy
+    }
+
+    /// .. "then the longest".
+    fn prefers_longer(&self, longer: usize, shorter: usize) -> bool {
+        longer <= shorter
+    }
+
+    /// The most pixels that a BRUN packet repeats, and the most that it copies.
+    fn most_brun(&self) -> (usize, usize) {
+        (MOST_REPEATED, MOST_COPIED)
+    }
+
+    /// "Delta: kind 7. Only rows with a change, one skip word before each gap, none after the last."
+    fn ss2_body(&self, width: usize, previous: &[u8], next: &[u8]) -> Vec<u8> {
         let mut lines = Vec::new();
-        let mut count = 0;
-        let mut gap = 0;
-        for (old, new) in rows {
+        let (mut count, mut gap) = (0, 0);
+        for (old, new) in previous.chunks(width).zip(next.chunks(width)) {
             if old == new {
                 gap += 1;
                 continue;
@@ -314,9 +226,6 @@ impl House {
             count += 1;
             gap = 0;
         }
-        if self.mistake == Mistake::SkipAfterLastRow {
-            push_row_skip(&mut lines, gap);
-        }
         let mut body = Vec::new();
         push_word(&mut body, count);
         body.extend(lines);
@@ -324,17 +233,23 @@ impl House {
     }
 
     fn ss2_line(&self, old: &[u8], new: &[u8]) -> Vec<u8> {
-        let mut line = Vec::new();
-        let last = self.width - 1;
-        if self.width % 2 == 1 && old[last] != new[last] && self.mistake != Mistake::LastColumnLeftOut {
-            push_word(&mut line, 0x8000 | new[last] as usize);
-        }
+        let mut line = self.last_pixel_word(old, new);
         let packets = self.ss2_packets(old, new);
         push_word(&mut line, packets.len());
         line.extend(packets.concat());
         line
     }
 
+    /// "An odd width's last column uses the last-pixel word, if changed."
+    fn last_pixel_word(&self, old: &[u8], new: &[u8]) -> Vec<u8> {
+        let (mut word, last) = (Vec::new(), new.len() - 1);
+        if new.len() % 2 == 1 && old[last] != new[last] {
+            push_word(&mut word, 0x8000 | new[last] as usize);
+        }
+        word
+    }
+
+    /// "The row is seen as pairs from column 0".
     fn ss2_packets(&self, old: &[u8], new: &[u8]) -> Vec<Vec<u8>> {
         let pairs: Vec<&[u8]> = new.chunks_exact(2).collect();
         let changed: Vec<bool> = old.chunks_exact(2).zip(&pairs).map(|(was, is)| self.pair_changed(was, is)).collect();
@@ -342,9 +257,9 @@ impl House {
         let mut shown = 0;
         for (first, after) in stretches(&changed) {
             let mut gap = 2 * (first - shown);
-            while gap > self.longest_skip() {
-                packets.push(vec![as_byte(self.longest_skip()), 0]);
-                gap -= self.longest_skip();
+            while gap > self.most_skipped() {
+                packets.push(vec![as_byte(self.most_skipped()), 0]);
+                gap -= self.most_skipped();
             }
             packets.extend(self.ss2_stretch(gap, &pairs[first..after]));
             shown = after;
@@ -352,71 +267,101 @@ impl House {
         packets
     }
 
+    /// "a pair is changed if either pixel is".
     fn pair_changed(&self, was: &[u8], is: &[u8]) -> bool {
-        match self.mistake {
-            Mistake::FirstPixelOfPairOnly => was[0] != is[0],
-            _ => was != is,
-        }
+        was != is
     }
 
-    fn longest_skip(&self) -> usize {
-        match self.mistake {
-            Mistake::GapOf255 => 255,
-            _ => MOST_SKIPPED,
-        }
+    /// "A gap over 254 pixels is first shortened by packets of skip 254 and type 0."
+    fn most_skipped(&self) -> usize {
+        MOST_SKIPPED
     }
 
-    /// The packets of one stretch of changed pairs, the first of them after `gap` pixels.
+    /// The packets of one stretch of changed pairs, the first of them after `gap` pixels: "otherwise pairs are copied up
+    /// to such a repeat, the stretch's end, or 127".
     fn ss2_stretch(&self, gap: usize, pairs: &[&[u8]]) -> Vec<Vec<u8>> {
         let mut packets = Vec::new();
-        let mut at = 0;
+        let (mut at, mut skip) = (0, gap);
         while at < pairs.len() {
-            let skip = if at == 0 { as_byte(gap) } else { 0 };
-            let equal = self.equal_pairs(pairs, at);
-            let mut packet = vec![skip];
-            if equal >= self.least_repeat() {
-                packet.push(as_negative(equal));
+            let mut packet = vec![as_byte(skip)];
+            let repeated = self.repeated(pairs, at);
+            if repeated > 0 {
+                packet.push(as_negative(repeated));
                 packet.extend(pairs[at]);
-                at += equal;
+                at += repeated;
             } else {
-                let copied = self.copied_pairs(pairs, at);
+                let up_to_repeat = (at..pairs.len()).take_while(|i| self.repeated(pairs, *i) == 0).count();
+                let copied = up_to_repeat.min(self.most_pairs());
                 packet.push(as_byte(copied));
                 packet.extend(pairs[at..at + copied].concat());
                 at += copied;
             }
             packets.push(packet);
+            skip = 0;
         }
         packets
     }
 
-    fn least_repeat(&self) -> usize {
-        match self.mistake {
-            Mistake::SinglePairRepeated => 1,
-            _ => 2,
+    /// How many pairs from `at` on are a repeat, if any: "two or more equal next pairs in a row are one repeat, as long as
+    /// can be, at most 127".
+    fn repeated(&self, pairs: &[&[u8]], at: usize) -> usize {
+        let equal = pairs[at..].iter().take(self.most_pairs()).take_while(|pair| **pair == pairs[at]).count();
+        if equal >= 2 {
+            equal
+        } else {
+            0
         }
     }
 
+    /// "at most 127".
     fn most_pairs(&self) -> usize {
-        match self.mistake {
-            Mistake::PairsUpTo126 => MOST_PAIRS - 1,
-            _ => MOST_PAIRS,
-        }
-    }
-
-    /// How many pairs from `at` on are equal, at most 127.
-    fn equal_pairs(&self, pairs: &[&[u8]], at: usize) -> usize {
-        pairs[at..].iter().take_while(|pair| **pair == pairs[at]).count().min(self.most_pairs())
-    }
-
-    /// How many pairs from `at` on are copied: up to a repeat, the stretch's end, or 127.
-    fn copied_pairs(&self, pairs: &[&[u8]], at: usize) -> usize {
-        let up_to_repeat = (at..pairs.len()).take_while(|i| self.equal_pairs(pairs, *i) < self.least_repeat()).count();
-        up_to_repeat.min(self.most_pairs())
+        127
     }
 }
 
+pub fn push_word(bytes: &mut Vec<u8>, word: usize) {
+    let word = u16::try_from(word).expect("a word of the house form fits 16 bits");
+    bytes.extend(word.to_le_bytes());
+}
+
+fn push_size(bytes: &mut Vec<u8>, size: usize) {
+    let size = u32::try_from(size).expect("a size of the house form fits 32 bits");
+    bytes.extend(size.to_le_bytes());
+}
+
+pub fn as_byte(number: usize) -> u8 {
+    u8::try_from(number).expect("a number of the house form fits a byte")
+}
+
+/// Minus `number`, as a signed byte is stored.
+fn as_negative(number: usize) -> u8 {
+    as_byte(256 - number)
+}
+
+pub fn sub_chunk(kind: u16, body: &[u8]) -> Vec<u8> {
+    let mut bytes = Vec::new();
+    push_size(&mut bytes, CHUNK_HEADER + body.len());
+    push_word(&mut bytes, kind as usize);
+    bytes.extend(body);
+    bytes
+}
+
+/// The stretches of true, as (first, after the last).
+pub fn stretches(marks: &[bool]) -> Vec<(usize, usize)> {
+    let mut found = Vec::new();
+    let mut at = 0;
+    while at < marks.len() {
+        let end = at + marks[at..].iter().take_while(|mark| **mark == marks[at]).count();
+        if marks[at] {
+            found.push((at, end));
+        }
+        at = end;
+    }
+    found
+}
+
 /// One skip word for a gap of rows, none for no gap.
-fn push_row_skip(bytes: &mut Vec<u8>, rows: usize) {
+pub fn push_row_skip(bytes: &mut Vec<u8>, rows: usize) {
     if rows > 0 {
         push_word(bytes, 65_536 - rows);
     }
@@ -424,10 +369,10 @@ fn push_row_skip(bytes: &mut Vec<u8>, rows: usize) {
 
 /// A packet of a BRUN row that begins at column `x`.
 #[derive(Clone, Copy, Debug, PartialEq, Eq)]
-struct BrunPacket {
-    x: usize,
-    count: usize,
-    repeats: bool,
+pub struct BrunPacket {
+    pub x: usize,
+    pub count: usize,
+    pub repeats: bool,
 }
 
 impl BrunPacket {
@@ -442,62 +387,20 @@ impl BrunPacket {
     }
 }
 
-/// The packets of least total bytes, by a plain dynamic program from the row's end to its front.
-fn brun_row(mistake: Mistake, row: &[u8]) -> Vec<BrunPacket> {
-    if mistake == Mistake::RepeatAtEveryEqualPair {
-        return brun_row_of_repeats(row);
-    }
-    let mut least = vec![0; row.len() + 1];
-    let mut first = Vec::with_capacity(row.len());
-    for x in (0..row.len()).rev() {
-        let (total, packet) = first_packet(mistake, row, x, &least);
-        least[x] = total;
-        first.push(packet);
-    }
-    first.reverse();
-    follow(&first)
-}
-
-/// The first packet of a least encoding from column `x` on, and that encoding's bytes: document 01's tie rule.
-fn first_packet(mistake: Mistake, row: &[u8], x: usize, least: &[usize]) -> (usize, BrunPacket) {
-    let longest = mistake != Mistake::TieForShortest;
-    let (most_repeated, most_copied) = match mistake {
-        Mistake::BrunRepeatUpTo126 => (MOST_REPEATED - 1, MOST_COPIED),
-        Mistake::BrunCopyUpTo127 => (MOST_REPEATED, MOST_COPIED - 1),
-        _ => (MOST_REPEATED, MOST_COPIED),
-    };
-    let equal = equal_pixels(row, x).min(most_repeated);
-    let left = row.len() - x;
-    let repeat = least_total(longest, equal, |count| 2 + least[x + count]);
-    let copy = least_total(longest, left.min(most_copied), |count| 1 + count + least[x + count]);
-    let repeats = match mistake {
-        Mistake::TieForCopy => repeat.total < copy.total,
-        _ => repeat.total <= copy.total,
-    };
-    let chosen = if repeats { repeat } else { copy };
-    (chosen.total, BrunPacket { x, count: chosen.count, repeats })
-}
-
-/// A count of pixels, and the bytes of a row's rest that begins with so many.
-struct Choice {
-    total: usize,
-    count: usize,
-}
-
-/// The count from 1 to `most` of least total; of several the longest, or the shortest.
-fn least_total(longest: bool, most: usize, total: impl Fn(usize) -> usize) -> Choice {
-    let mut best = Choice { total: total(1), count: 1 };
-    for count in 2..=most {
-        let candidate = total(count);
-        if candidate < best.total || (longest && candidate == best.total) {
-            best = Choice { total: candidate, count };
-        }
-    }
-    best
+/// The least total of the counts from 1 to `most`, and the count that gives it: a longer one where it is preferred.
+fn least_total(
+    most: usize,
+    total: impl Fn(usize) -> usize,
+    prefers_longer: impl Fn(usize, usize) -> bool,
+) -> (usize, usize) {
+    (2..=most).fold((total(1), 1), |(least, count), longer| match total(longer) {
+        candidate if prefers_longer(candidate, least) => (candidate, longer),
+        _ => (least, count),
+    })
 }
 
 /// How many pixels from column `x` on are equal, at most 127.
-fn equal_pixels(row: &[u8], x: usize) -> usize {
+pub fn equal_pixels(row: &[u8], x: usize) -> usize {
     row[x..].iter().take(MOST_REPEATED).take_while(|pixel| **pixel == row[x]).count()
 }
 
@@ -512,29 +415,15 @@ fn follow(first: &[BrunPacket]) -> Vec<BrunPacket> {
     packets
 }
 
-/// The mistake that document 01 warns of: a repeat for every two equal pixels, all else copied.
-fn brun_row_of_repeats(row: &[u8]) -> Vec<BrunPacket> {
-    let mut packets = Vec::new();
-    let mut x = 0;
-    while x < row.len() {
-        let equal = equal_pixels(row, x);
-        let repeats = equal > 1;
-        let copied = (x..row.len()).take_while(|at| equal_pixels(row, *at) == 1).count().min(MOST_COPIED);
-        let count = if repeats { equal } else { copied };
-        packets.push(BrunPacket { x, count, repeats });
-        x += count;
-    }
-    packets
-}
-
 #[cfg(test)]
 mod tests {
     use super::*;
+    use crate::model::MODEL;
 
     const GREY: [u8; PALETTE_BYTES] = [9; PALETTE_BYTES];
 
     fn packets_of(row: &[u8]) -> Vec<u8> {
-        brun_row(Mistake::None, row).iter().flat_map(|packet| packet.stored(row)).collect()
+        Document.brun_row(row).iter().flat_map(|packet| packet.stored(row)).collect()
     }
 
     fn written(width: usize, previous: &[u8], next: &[u8]) -> Vec<u8> {
@@ -546,7 +435,7 @@ mod tests {
         let from = Pair { picture: previous, palette: old };
         let to = Pair { picture: next, palette: new };
         let height = previous.len() / width;
-        let length = write_frame(width as u64, height as u64, from, to, &mut out).expect("the room is large");
+        let length = Document.write_frame(width as u64, height as u64, from, to, &mut out).expect("the room is large");
         assert!(out[length..].iter().all(|byte| *byte == 0xEE));
         out.truncate(length);
         out
@@ -627,22 +516,22 @@ mod tests {
 
     #[test]
     fn pairs_past_127_start_anew() {
-        let house = House { mistake: Mistake::None, width: 320, height: 1 };
+        let ss2_body = |previous: &[u8], next: &[u8]| Document.ss2_body(320, previous, next);
         let previous = [0; 320];
         let mut next = [0; 320];
         next[..256].fill(5);
         next[256..258].copy_from_slice(&[6, 7]);
-        let body = house.ss2_body(&previous, &next);
+        let body = ss2_body(&previous, &next);
         assert_eq!(body, [1, 0, 2, 0, 0, 0x81, 5, 5, 0, 2, 5, 5, 6, 7]);
     }
 
     #[test]
     fn rows_without_a_change_are_skipped() {
-        let house = House { mistake: Mistake::None, width: 2, height: 5 };
+        let ss2_body = |previous: &[u8], next: &[u8]| Document.ss2_body(2, previous, next);
         let next = [0, 0, 1, 2, 0, 0, 0, 0, 3, 4];
         let expected = [2, 0, 0xFF, 0xFF, 1, 0, 0, 1, 1, 2, 0xFE, 0xFF, 1, 0, 0, 1, 3, 4];
-        assert_eq!(house.ss2_body(&[0; 10], &next), expected);
-        assert_eq!(house.ss2_body(&next, &[0, 0, 1, 9, 0, 0, 0, 0, 3, 4]), [1, 0, 0xFF, 0xFF, 1, 0, 0, 1, 1, 9]);
+        assert_eq!(ss2_body(&[0; 10], &next), expected);
+        assert_eq!(ss2_body(&next, &[0, 0, 1, 9, 0, 0, 0, 0, 3, 4]), [1, 0, 0xFF, 0xFF, 1, 0, 0, 1, 1, 9]);
     }
 
     #[test]
@@ -670,11 +559,11 @@ mod tests {
         let shown = |picture, palette| Pair { picture, palette };
         let numbered = |answer: Result<usize, Refusal>| answer.map_err(|refusal| (refusal.number, refusal.place));
         let right = shown(&[0; 1], &GREY);
-        assert_eq!(numbered(write_frame(0, 1, shown(&[], &[]), right, &mut [])), Err((2, 0)));
-        assert_eq!(numbered(write_frame(1, 1, shown(&[], &GREY), right, &mut [])), Err((1, 0)));
-        assert_eq!(numbered(write_frame(1, 1, right, shown(&[0], &GREY[1..]), &mut [])), Err((1, 0)));
-        assert_eq!(numbered(write_frame(1, 1, right, right, &mut [0; 15])), Err((3, 0)));
-        assert_eq!(numbered(write_frame(1, 1, right, right, &mut [0; 16])), Ok(16));
+        assert_eq!(numbered(Document.write_frame(0, 1, shown(&[], &[]), right, &mut [])), Err((2, 0)));
+        assert_eq!(numbered(Document.write_frame(1, 1, shown(&[], &GREY), right, &mut [])), Err((1, 0)));
+        assert_eq!(numbered(Document.write_frame(1, 1, right, shown(&[0], &GREY[1..]), &mut [])), Err((1, 0)));
+        assert_eq!(numbered(Document.write_frame(1, 1, right, right, &mut [0; 15])), Err((3, 0)));
+        assert_eq!(numbered(Document.write_frame(1, 1, right, right, &mut [0; 16])), Ok(16));
     }
 
     #[test]
@@ -683,7 +572,8 @@ mod tests {
         let rewritten = |bytes: &[u8], room: usize| {
             let (mut picture, mut palette, mut out) = ([8; 2], [8; 769], vec![0; room]);
             let work = PairMut { picture: &mut picture, palette: &mut palette };
-            let answer = rewrite_frame(bytes, 1, 1, Pair { picture: &[0], palette: &GREY }, work, &mut out);
+            let answer =
+                Document.rewrite_frame(&MODEL, bytes, 1, 1, Pair { picture: &[0], palette: &GREY }, work, &mut out);
             (answer.map_err(|refusal| refusal.number), picture, palette[0], palette[768], out)
         };
         let house = [23, 0, 0, 0, 0xFA, 0xF1, 1, 0, 0, 0, 0, 0, 0, 0, 0, 0, 7, 0, 0, 0, 16, 0, 3];

@@ -1,9 +1,8 @@
-//! The model's file header: 001's table of fields, document 01's checks of it, and what is written into it.
+//! The file header: 001's table of fields, document 01's checks of it, and what is written into it.
 
-use super::decode::{size_at, word_at};
-use super::reel::MAX_FRAMES;
-use super::reel_mistakes::Mistake;
-use super::{accepted_size, long_enough, number, Refusal, MAX_HEIGHT, MAX_WIDTH};
+use super::{
+    accepted_size, long_enough, number, require, size_at, word_at, Document, Refusal, MAX_FRAMES, MAX_HEIGHT, MAX_WIDTH,
+};
 
 pub const FILE_HEADER: usize = 128;
 
@@ -40,141 +39,114 @@ pub struct FileHeader {
     pub speed: u32,
 }
 
-/// Reads a header: the whole-reel check's refusals of it, or what it tells.
-pub fn read_header(bytes: &[u8]) -> Result<FileHeader, Refusal> {
-    read_header_with(Mistake::None, bytes)
-}
+impl Headers for Document {}
 
-/// `read_header` with one mistake in it, or none.
-pub fn read_header_with(mistake: Mistake, bytes: &[u8]) -> Result<FileHeader, Refusal> {
-    let header = accepted(mistake, bytes, &[], &[])?;
-    Ok(match mistake {
-        Mistake::SpeedReadAsWord => FileHeader { speed: header.speed & 0xFFFF, ..header },
-        Mistake::SpeedReadAtOffset18 => FileHeader { speed: size_at(bytes, field::SPEED + 2) as u32, ..header },
-        Mistake::RingCountedAsFrame => FileHeader { frames: header.frames + 1, ..header },
-        Mistake::WidthAsHeight => FileHeader { width: header.height, height: header.width, ..header },
-        Mistake::SizeOfAllBytes => FileHeader { size: bytes.len(), ..header },
-        _ => header,
-    })
-}
+pub trait Headers {
+    /// What a header tells, or the whole-reel check's refusals of it.
+    fn read_header(&self, bytes: &[u8]) -> Result<FileHeader, Refusal> {
+        self.accepted(bytes, &[], &[])
+    }
 
-/// The header's checks in document 01's order: 4, 5, 6, 4, 2, 14, and 1 for the slices lent with the reel.
-pub(super) fn accepted(
-    mistake: Mistake,
-    bytes: &[u8],
-    pictures: &[&[u8]],
-    palettes: &[&[u8]],
-) -> Result<FileHeader, Refusal> {
-    if bytes.len() < FILE_HEADER {
-        return Err(Refusal::new(number::CUT_SHORT, 0));
+    /// "Reel: 4, 5, size field 6 then 4, 2, 14, 1", the last for the slices lent with the reel; "any fault of file header
+    /// .. give[s] place 0".
+    fn accepted(&self, bytes: &[u8], pictures: &[&[u8]], palettes: &[&[u8]]) -> Result<FileHeader, Refusal> {
+        require(bytes.len() >= FILE_HEADER, number::CUT_SHORT, 0)?;
+        let header = FileHeader {
+            size: size_at(bytes, field::SIZE),
+            width: word_at(bytes, field::WIDTH) as usize,
+            height: word_at(bytes, field::HEIGHT) as usize,
+            frames: word_at(bytes, field::FRAMES) as usize,
+            speed: size_at(bytes, field::SPEED) as u32,
+        };
+        for (number, passed) in self.checks(&header, bytes, pictures, palettes) {
+            require(passed, number, 0)?;
+        }
+        Ok(header)
     }
-    let size = size_at(bytes, field::SIZE);
-    let (width, height) = (word_at(bytes, field::WIDTH) as usize, word_at(bytes, field::HEIGHT) as usize);
-    let mut checks = [
-        (number::WRONG_TYPE, word_at(bytes, field::MAGIC) == MAGIC),
-        (number::SIZE_TOO_SMALL, size >= FILE_HEADER),
-        (number::CUT_SHORT, size <= bytes.len()),
-        (number::BAD_SIZE, accepted_size(width as u64, height as u64).is_ok()),
-        (number::BAD_FILE_HEADER, numbers_are_right(mistake, bytes)),
-        (number::SHORT_SLICE, long_enough(width * height, pictures, palettes).is_ok()),
-    ];
-    match mistake {
-        Mistake::SizeFieldBeforeMagic => checks.swap(0, 1),
-        Mistake::FlagsBeforeSizeField => checks[1..5].rotate_right(1),
-        Mistake::FlagsBeforePictureSize => checks.swap(3, 4),
-        Mistake::SlicesBeforeFlags => checks.swap(4, 5),
-        _ => {}
+
+    /// The checks after the first, in their order.
+    fn checks(&self, header: &FileHeader, bytes: &[u8], pictures: &[&[u8]], palettes: &[&[u8]]) -> [(u32, bool); 6] {
+        let (width, height) = (header.width, header.height);
+        [
+            (number::WRONG_TYPE, word_at(bytes, field::MAGIC) == MAGIC),
+            (number::SIZE_TOO_SMALL, header.size >= FILE_HEADER),
+            (number::CUT_SHORT, header.size <= bytes.len()),
+            (number::BAD_SIZE, accepted_size(width as u64, height as u64).is_ok()),
+            (
+                number::BAD_FILE_HEADER,
+                self.depth_is_right(word_at(bytes, field::DEPTH))
+                    && self.frames_are_right(header.frames as u64)
+                    && self.flags_are_right(word_at(bytes, field::FLAGS)),
+            ),
+            (number::SHORT_SLICE, long_enough(width * height, pictures, palettes).is_ok()),
+        ]
     }
-    match checks.iter().find(|(_, passed)| !passed) {
-        Some((number, _)) => Err(Refusal::new(*number, 0)),
-        None => {
-            let (frames, speed) = (word_at(bytes, field::FRAMES) as usize, size_at(bytes, field::SPEED) as u32);
-            Ok(FileHeader { size, width, height, frames, speed })
+
+    /// 14: "depth not 8, ..
+    fn depth_is_right(&self, depth: u16) -> bool {
+        depth == DEPTH
+    }
+
+    /// .. frame count out of range, ..
+    fn frames_are_right(&self, frames: u64) -> bool {
+        (1..=MAX_FRAMES).contains(&frames)
+    }
+
+    /// .. or flags not 3".
+    fn flags_are_right(&self, flags: u16) -> bool {
+        flags == FINISHED
+    }
+
+    /// "Written: created and updated 0, creator and updater hex 464C4942, aspect .. Speed is the caller's. Size, frames,
+    /// flags and both oframes are 0 until the close".
+    fn opened(&self, width: usize, height: usize, speed: u32) -> [u8; FILE_HEADER] {
+        let mut header = [0; FILE_HEADER];
+        let (aspect_x, aspect_y) = self.aspect(width as u64, height as u64);
+        put_word(&mut header, field::MAGIC, MAGIC);
+        put_word(&mut header, field::WIDTH, width as u16);
+        put_word(&mut header, field::HEIGHT, height as u16);
+        put_word(&mut header, field::DEPTH, DEPTH);
+        put_double(&mut header, field::SPEED, speed);
+        put_double(&mut header, field::CREATOR, FLIB);
+        put_double(&mut header, field::UPDATER, FLIB);
+        put_word(&mut header, field::ASPECT_X, aspect_x);
+        put_word(&mut header, field::ASPECT_Y, aspect_y);
+        header
+    }
+
+    /// "aspect 1:1 (6:5 at 320 by 200)".
+    fn aspect(&self, width: u64, height: u64) -> (u16, u16) {
+        if (width, height) == (MAX_WIDTH, MAX_HEIGHT) {
+            (6, 5)
+        } else {
+            (1, 1)
         }
     }
-}
 
-/// Document 01's check 14: depth, frames and flags.
-fn numbers_are_right(mistake: Mistake, bytes: &[u8]) -> bool {
-    let frames = u64::from(word_at(bytes, field::FRAMES));
-    let flags = word_at(bytes, field::FLAGS);
-    let depth_is_right = word_at(bytes, field::DEPTH) == DEPTH || mistake == Mistake::DepthUnchecked;
-    let frames_are_right = match mistake {
-        Mistake::HeaderOf4001Frames => (1..=MAX_FRAMES + 1).contains(&frames),
-        Mistake::HeaderOfNoFrames => frames <= MAX_FRAMES,
-        _ => (1..=MAX_FRAMES).contains(&frames),
-    };
-    let flags_are_right = match mistake {
-        Mistake::FlagsAsBits => flags & FINISHED == FINISHED,
-        _ => flags == FINISHED,
-    };
-    depth_is_right && frames_are_right && flags_are_right
-}
-
-fn put_word(header: &mut [u8], offset: usize, word: u16) {
-    header[offset..offset + 2].copy_from_slice(&word.to_le_bytes());
-}
-
-fn put_double(header: &mut [u8], offset: usize, double: u32) {
-    header[offset..offset + 4].copy_from_slice(&double.to_le_bytes());
-}
-
-/// The header of a reel that was just opened: size, frames, flags and both oframes are 0.
-pub(super) fn opened(mistake: Mistake, width: usize, height: usize, speed: u32) -> [u8; FILE_HEADER] {
-    let mut header = [0; FILE_HEADER];
-    let (aspect_x, aspect_y) = aspect(mistake, width as u64, height as u64);
-    put_word(&mut header, field::MAGIC, MAGIC);
-    put_word(&mut header, field::WIDTH, width as u16);
-    put_word(&mut header, field::HEIGHT, height as u16);
-    put_word(&mut header, field::DEPTH, DEPTH);
-    put_double(&mut header, field::SPEED, speed);
-    put_double(&mut header, field::CREATOR, FLIB);
-    put_double(&mut header, field::UPDATER, FLIB);
-    put_word(&mut header, field::ASPECT_X, aspect_x);
-    put_word(&mut header, field::ASPECT_Y, aspect_y);
-    match mistake {
-        Mistake::SpeedOfTwoBytes => put_double(&mut header, field::SPEED, speed & 0xFFFF),
-        Mistake::CreatorLeftOut => put_double(&mut header, field::CREATOR, 0),
-        Mistake::FlagsAtOpen => put_word(&mut header, field::FLAGS, FINISHED),
-        Mistake::Oframe1AtOpen => put_double(&mut header, field::OFRAME1, FILE_HEADER as u32),
-        _ => {}
-    }
-    header
-}
-
-/// 1:1, but 6:5 at 320 by 200.
-fn aspect(mistake: Mistake, width: u64, height: u64) -> (u16, u16) {
-    let is_largest = match mistake {
-        Mistake::AspectOneToOne => false,
-        Mistake::AspectByWidthAlone => width == MAX_WIDTH,
-        _ => (width, height) == (MAX_WIDTH, MAX_HEIGHT),
-    };
-    if is_largest {
-        (6, 5)
-    } else {
-        (1, 1)
+    /// "oframe1 128, oframe2 the second frame chunk (the ring, if there is one frame), flags 3 at the close", "which sets
+    /// no other header byte" than these, size and frames.
+    fn close(&self, header: &mut [u8], closing: &Closing) {
+        put_double(header, field::SIZE, closing.size);
+        put_word(header, field::FRAMES, closing.frames);
+        put_word(header, field::FLAGS, FINISHED);
+        put_double(header, field::OFRAME1, FILE_HEADER as u32);
+        put_double(header, field::OFRAME2, closing.second_frame);
     }
 }
 
 /// What a close tells the header.
-pub(super) struct Closing {
+pub struct Closing {
     pub size: u32,
     pub frames: u16,
     pub second_frame: u32,
 }
 
-/// Sets the fields that a close sets, and no other byte.
-pub(super) fn close(header: &mut [u8], closing: &Closing) {
-    put_double(header, field::SIZE, closing.size);
-    put_word(header, field::FRAMES, closing.frames);
-    put_word(header, field::FLAGS, FINISHED);
-    put_double(header, field::OFRAME1, FILE_HEADER as u32);
-    put_double(header, field::OFRAME2, closing.second_frame);
+pub fn put_word(header: &mut [u8], offset: usize, word: u16) {
+    header[offset..offset + 2].copy_from_slice(&word.to_le_bytes());
 }
 
-/// The mistake of an add that counts in the header.
-pub(super) fn count_frames(header: &mut [u8], frames: u64) {
-    put_word(header, field::FRAMES, frames as u16);
+pub fn put_double(header: &mut [u8], offset: usize, double: u32) {
+    header[offset..offset + 4].copy_from_slice(&double.to_le_bytes());
 }
 
 #[cfg(test)]
@@ -183,18 +155,21 @@ mod tests {
     use crate::reels::examples::{blank_reel, SPEED};
 
     fn number(bytes: &[u8]) -> Result<(), (u32, u64)> {
-        read_header(bytes).map(|_| ()).map_err(|refusal| (refusal.number, refusal.place))
+        Document.read_header(bytes).map(|_| ()).map_err(|refusal| (refusal.number, refusal.place))
     }
 
     #[test]
     fn what_a_header_tells() {
         let mut bytes = blank_reel();
         let told = FileHeader { size: 160, width: 1, height: 1, frames: 1, speed: SPEED };
-        assert_eq!(read_header(&bytes), Ok(told));
+        assert_eq!(Document.read_header(&bytes), Ok(told));
         bytes[8..12].copy_from_slice(&[0x40, 1, 200, 0]);
         bytes[16..20].copy_from_slice(&[4, 3, 2, 1]);
         bytes.extend([7; 9]);
-        assert_eq!(read_header(&bytes), Ok(FileHeader { width: 320, height: 200, speed: 0x0102_0304, ..told }));
+        assert_eq!(
+            Document.read_header(&bytes),
+            Ok(FileHeader { width: 320, height: 200, speed: 0x0102_0304, ..told })
+        );
     }
 
     #[test]

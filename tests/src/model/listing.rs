@@ -1,11 +1,10 @@
-//! The model's listing: a reel's chunks up to the ring, each with what it holds behind it, as lines of text.
+//! The listing: a reel's chunks up to the ring, each with what it holds behind it, as lines of text.
 
-use super::decode::{size_at, word_at};
-use super::reel_mistakes::Mistake;
-use super::top_level::Span;
-use super::trailer::check_trailer;
-use super::walk::{walk, Walked};
-use super::{kind, number, Refusal, CHUNK_HEADER, FRAME_HEADER, FRAME_TYPE, PREFIX_TYPE};
+use super::trailer::{walked, Walked};
+use super::{
+    kind, number, require, size_at, word_at, Document, Model, Refusal, Span, CHUNK_HEADER, FRAME_HEADER, FRAME_TYPE,
+    PREFIX_TYPE,
+};
 
 /// The most bytes that are listed.
 pub const MOST_LISTED: usize = 65_536;
@@ -14,214 +13,134 @@ pub const MOST_DEPTH: usize = 8;
 /// Where the child of a postage stamp begins.
 const STAMP_HEADER: usize = 12;
 
-/// Writes the listing, also where that is a refusal in words, and gives its length.
-pub fn list(bytes: &[u8], out: &mut [u8]) -> Result<usize, Refusal> {
-    list_with(Mistake::None, bytes, out)
-}
-
-/// `list` with one mistake in it, or none.
-pub fn list_with(mistake: Mistake, bytes: &[u8], out: &mut [u8]) -> Result<usize, Refusal> {
-    if mistake == Mistake::RefusalsAnswered {
-        lines(mistake, bytes)?;
-    }
-    let text = text_with(mistake, bytes).into_bytes();
-    let needed = if mistake == Mistake::OutNeedsOneMore { text.len() + 1 } else { text.len() };
-    let room = text.len().min(out.len());
-    if needed <= out.len() || mistake == Mistake::ListingWrittenWhenShort {
-        out[..room].copy_from_slice(&text[..room]);
-    }
-    if needed > out.len() {
-        return Err(Refusal::new(number::SHORT_OUTPUT, 0));
-    }
-    Ok(text.len())
-}
-
-/// The listing's text.
-pub fn text(bytes: &[u8]) -> String {
-    text_with(Mistake::None, bytes)
-}
-
-fn text_with(mistake: Mistake, bytes: &[u8]) -> String {
-    lines(mistake, bytes).unwrap_or_else(|Refusal { number, place }| match mistake {
-        Mistake::RefusedAtPlace0 => format!("refused {number} 0\n"),
-        _ => format!("refused {number} {place}\n"),
-    })
-}
-
-/// The header's line, the chunks', and the last one.
-fn lines(mistake: Mistake, bytes: &[u8]) -> Result<String, Refusal> {
-    let most = match mistake {
-        Mistake::LimitOneLess => MOST_LISTED - 1,
-        Mistake::LimitOneMore => MOST_LISTED + 1,
-        _ => MOST_LISTED,
-    };
-    if mistake == Mistake::LimitAfterWalk {
-        walk(mistake, bytes)?;
-    }
-    if bytes.len() > most {
-        return Err(Refusal::new(number::SHORT_OUTPUT, 0));
-    }
-    let reel = walk(mistake, bytes)?;
-    if mistake == Mistake::TrailerListed {
-        check_trailer(bytes)?;
-    }
-    let first_line = format!("flic {} {} {}\n", reel.header.width, reel.header.height, reel.header.frames);
-    let mut lister = Lister { mistake, bytes, within: Vec::new(), text: first_line };
-    for chunk in lister.top_level(&reel) {
-        lister.chunk(chunk);
-    }
-    if mistake != Mistake::OkLeftOut {
-        lister.text.push_str("ok\n");
-    }
-    Ok(lister.text)
-}
-
-struct Lister<'a> {
-    mistake: Mistake,
-    bytes: &'a [u8],
+/// A listing while it is written.
+pub struct Listing<'a> {
+    pub bytes: &'a [u8],
     /// The containers around what is listed next, the outermost first.
-    within: Vec<Span>,
-    text: String,
+    pub within: Vec<Span>,
+    pub text: String,
 }
 
-impl Lister<'_> {
-    fn kind_of(&self, chunk: Span) -> u16 {
+impl Listing<'_> {
+    pub fn kind_of(&self, chunk: Span) -> u16 {
         word_at(self.bytes, chunk.start + 4)
     }
+}
 
-    /// The chunks at depth 0: up to the ring and no further.
-    fn top_level(&self, reel: &Walked) -> Vec<Span> {
-        let mut chunks = reel.chunks.clone();
-        match self.mistake {
-            Mistake::RingLeftOut => chunks.truncate(chunks.len() - 1),
-            Mistake::AfterRingListed => {
-                let mut place = reel.ring().end;
-                while let Some(chunk) = self.child_at(place, reel.header.size) {
-                    chunks.push(chunk);
-                    place = chunk.end;
-                }
-            }
-            _ => {}
+impl Listings for Document {}
+
+pub trait Listings {
+    /// Writes the text, also where that is a refusal in words, and gives its length.
+    fn list(&self, model: &Model, bytes: &[u8], out: &mut [u8]) -> Result<usize, Refusal> {
+        let text = self.text(model, bytes).into_bytes();
+        require(text.len() <= out.len(), number::SHORT_OUTPUT, 0)?;
+        out[..text.len()].copy_from_slice(&text);
+        Ok(text.len())
+    }
+
+    /// "writes either one line `refused N PLACE`, or the header line .., one line a chunk .., and `ok`".
+    fn text(&self, model: &Model, bytes: &[u8]) -> String {
+        self.lines(model, bytes).unwrap_or_else(|refusal| self.refused(refusal))
+    }
+
+    fn refused(&self, Refusal { number, place }: Refusal) -> String {
+        format!("refused {number} {place}\n")
+    }
+
+    /// "the other refusals are the trailer walk's, the trailer itself unread".
+    fn lines(&self, model: &Model, bytes: &[u8]) -> Result<String, Refusal> {
+        require(self.may_list(bytes.len()), number::SHORT_OUTPUT, 0)?;
+        let reel = walked(model, bytes)?;
+        let text = format!("flic {} {} {}\n", reel.header.width, reel.header.height, reel.header.frames);
+        let mut listing = Listing { bytes, within: Vec::new(), text };
+        for chunk in self.top_level(&reel) {
+            self.chunk(&mut listing, chunk);
         }
-        chunks
+        listing.text.push_str("ok\n");
+        Ok(listing.text)
+    }
+
+    /// "reads up to 65,536 bytes .. Input past that is refused 3, place 0".
+    fn may_list(&self, length: usize) -> bool {
+        length <= MOST_LISTED
+    }
+
+    /// "It lists up to the ring."
+    fn top_level(&self, reel: &Walked) -> Vec<Span> {
+        reel.chunks.clone()
     }
 
     /// Lists a chunk and, behind it, what it holds.
-    fn chunk(&mut self, chunk: Span) {
-        self.line(chunk);
-        let deepest = match self.mistake {
-            Mistake::Depth9Listed => MOST_DEPTH + 1,
-            Mistake::Depth8LeftOut => MOST_DEPTH - 1,
-            _ => MOST_DEPTH,
-        };
-        if self.within.len() < deepest && !self.stays_shut(chunk) {
-            self.within.push(chunk);
-            self.children(chunk);
-            self.within.pop();
+    fn chunk(&self, listing: &mut Listing, chunk: Span) {
+        let line = self.line(listing, chunk);
+        listing.text.push_str(&line);
+        if self.may_open(listing.within.len()) && !self.stays_shut(listing, chunk) {
+            listing.within.push(chunk);
+            self.children(listing, chunk);
+            listing.within.pop();
         }
     }
 
-    fn line(&mut self, chunk: Span) {
-        let depth = match self.mistake {
-            Mistake::DepthFrom1 => self.within.len() + 1,
-            _ => self.within.len(),
-        };
-        let from = match (self.mistake, self.within.last()) {
-            (Mistake::PlacesInContainer, Some(container)) => container.start,
-            _ => 0,
-        };
-        let (offset, kind, size) = (chunk.start - from, self.kind_of(chunk), chunk.end - chunk.start);
-        self.text.push_str(&format!("{depth} {offset} {kind} {size}\n"));
+    /// "one line a chunk (depth, offset, kind, size)".
+    fn line(&self, listing: &Listing, chunk: Span) -> String {
+        let (depth, kind) = (listing.within.len(), listing.kind_of(chunk));
+        format!("{depth} {} {kind} {}\n", chunk.start, chunk.end - chunk.start)
     }
 
-    /// A postage stamp directly inside another is a colour table.
-    fn stays_shut(&self, chunk: Span) -> bool {
-        let is_stamp = |chunk: &Span| self.kind_of(*chunk) == kind::PSTAMP;
-        let is_inside = !self.within.is_empty();
-        match (self.mistake, self.kind_of(chunk)) {
-            (Mistake::TableOpened, kind::PSTAMP) => false,
-            (Mistake::StampsInStampsShut, kind::PSTAMP) => self.within.iter().any(is_stamp),
-            (Mistake::StampsShut, kind::PSTAMP) | (Mistake::PrefixShut, PREFIX_TYPE) => true,
-            (Mistake::TopStampsShut, kind::PSTAMP) if !is_inside => true,
-            (Mistake::InnerPrefixShut, PREFIX_TYPE) | (Mistake::InnerFramesShut, FRAME_TYPE) => is_inside,
-            (_, kind::PSTAMP) => self.within.last().is_some_and(is_stamp),
-            _ => false,
-        }
+    /// "no line passing depth 8".
+    fn may_open(&self, depth: usize) -> bool {
+        depth < MOST_DEPTH
     }
 
-    /// Lists the children of a container up to the first that doesn't fit.
-    fn children(&mut self, container: Span) {
-        let Some((mut place, count)) = self.holding(container) else {
+    /// "an 18 directly inside an 18 is a colour table and stays shut".
+    fn stays_shut(&self, listing: &Listing, chunk: Span) -> bool {
+        let is_stamp = |chunk: Span| listing.kind_of(chunk) == kind::PSTAMP;
+        is_stamp(chunk) && listing.within.last().is_some_and(|container| is_stamp(*container))
+    }
+
+    /// "A container's listing stops at the first child that doesn't fit"; "a child of one of these kinds is opened in its
+    /// turn".
+    fn children(&self, listing: &mut Listing, container: Span) {
+        let Some((mut place, count)) = self.holds(listing, container) else {
             return;
         };
         for _ in 0..count {
-            let Some(child) = self.child_at(place, container.end) else {
-                return self.misfit(place, container);
+            let Some(child) = self.child_at(listing.bytes, place, container.end) else {
+                return;
             };
-            self.chunk(child);
+            self.chunk(listing, child);
             place = child.end;
         }
     }
 
-    /// The mistakes of going on where a child doesn't fit.
-    fn misfit(&mut self, place: usize, container: Span) {
-        let is_short = place > container.end;
-        match self.mistake {
-            Mistake::ChildPastContainerListed => self.child_at(place, self.bytes.len()).map(|child| self.line(child)),
-            Mistake::ShortContainerOpened if is_short => {
-                self.child_at(place, self.bytes.len()).map(|child| self.line(child))
+    /// "Chunks of kind 61696 and 61946 hold children after 16 bytes, as many as their count; kind 18 holds one after 12";
+    /// "one shorter than its 16 or 12 bytes lists none".
+    fn holds(&self, listing: &Listing, chunk: Span) -> Option<(usize, usize)> {
+        let (header, count) = match listing.kind_of(chunk) {
+            PREFIX_TYPE | FRAME_TYPE if chunk.start + FRAME_HEADER <= chunk.end => {
+                (FRAME_HEADER, word_at(listing.bytes, chunk.start + 6) as usize)
             }
-            Mistake::MisfitSteppedOver => {
-                self.child_at(place + CHUNK_HEADER, container.end).map(|child| self.chunk(child))
-            }
-            _ => None,
-        };
-    }
-
-    /// Where the children of a chunk begin, and how many there should be; nothing where it can hold none.
-    fn holding(&self, chunk: Span) -> Option<(usize, usize)> {
-        let header = match self.kind_of(chunk) {
-            PREFIX_TYPE | FRAME_TYPE => FRAME_HEADER,
-            kind::PSTAMP if self.mistake == Mistake::StampChildAfter16 => FRAME_HEADER,
-            kind::PSTAMP => STAMP_HEADER,
+            kind::PSTAMP if chunk.start + STAMP_HEADER <= chunk.end => (STAMP_HEADER, 1),
             _ => return None,
         };
-        let counted = self.mistake == Mistake::ShortContainerOpened && chunk.start + header <= self.bytes.len();
-        if chunk.end - chunk.start < header && !counted {
-            return None;
-        }
-        let count = word_at(self.bytes, chunk.start + 6) as usize;
-        let children = match (self.mistake, self.kind_of(chunk)) {
-            (Mistake::StampOfManyChildren, kind::PSTAMP) | (Mistake::CountUnread, _) => usize::MAX,
-            (_, kind::PSTAMP) => 1,
-            (Mistake::CountOneLess, _) => count.saturating_sub(1),
-            (Mistake::CountOfOneByte, _) => count & 0xFF,
-            _ => count,
-        };
-        Some((chunk.start + header, children))
+        Some((chunk.start + header, count))
     }
 
-    /// The child at `place` if it fits: its header whole, its size no less than that and within the container.
-    fn child_at(&self, place: usize, end: usize) -> Option<Span> {
+    /// The child at `place` if it fits: not "header not whole, size under 6 or past the container".
+    fn child_at(&self, bytes: &[u8], place: usize, end: usize) -> Option<Span> {
         let left = end.checked_sub(place)?;
         if left < CHUNK_HEADER {
             return None;
         }
-        let size = size_at(self.bytes, place);
-        let child = Span { start: place, end: place + size };
-        let least = match self.mistake {
-            Mistake::ChildFramesOf16 if self.kind_of(child) == FRAME_TYPE => FRAME_HEADER,
-            Mistake::ChildOfHeaderAloneMisfits => CHUNK_HEADER + 1,
-            _ => CHUNK_HEADER,
-        };
-        let most = if self.mistake == Mistake::ChildToTheEndMisfits { left - 1 } else { left };
-        (least..=most).contains(&size).then_some(child)
+        let size = size_at(bytes, place);
+        (CHUNK_HEADER..=left).contains(&size).then_some(Span { start: place, end: place + size })
     }
 }
 
 #[cfg(test)]
 mod tests {
     use super::*;
+    use crate::model::MODEL;
     use crate::reels::examples::blank_reel;
     use crate::reels::loose_reel::Loose;
     use crate::trailers::examples::{BLANK_LISTING, BLANK_TRAILER};
@@ -230,7 +149,7 @@ mod tests {
     /// The lines between the header's and the last one, of a 1 by 1 reel of one frame.
     fn listed(chunks: &[Vec<u8>]) -> Vec<String> {
         let reel = Loose { width: 1, height: 1, frames: 1, chunks: chunks.to_vec(), after: Vec::new() };
-        let text = text(&reel.bytes());
+        let text = MODEL.text(&reel.bytes());
         let lines: Vec<&str> = text.split_terminator('\n').collect();
         assert_eq!((lines[0], lines[lines.len() - 1]), ("flic 1 1 1", "ok"));
         lines[1..lines.len() - 1].iter().map(|line| line.to_string()).collect()
@@ -244,30 +163,30 @@ mod tests {
     fn the_blank_reel_of_document_01() {
         let reel = blank_reel();
         let mut out = [0x77; 60];
-        assert_eq!(list(&reel, &mut out), Ok(BLANK_LISTING.len()));
+        assert_eq!(MODEL.list(&reel, &mut out), Ok(BLANK_LISTING.len()));
         assert_eq!(out[..BLANK_LISTING.len()], *BLANK_LISTING.as_bytes());
         assert_eq!(out[BLANK_LISTING.len()..], vec![0x77; 60 - BLANK_LISTING.len()]);
-        assert_eq!(text(&[&reel[..], &BLANK_TRAILER].concat()), BLANK_LISTING);
-        assert_eq!(text(&[&reel[..], &[1, 2, 3]].concat()), BLANK_LISTING);
+        assert_eq!(MODEL.text(&[&reel[..], &BLANK_TRAILER].concat()), BLANK_LISTING);
+        assert_eq!(MODEL.text(&[&reel[..], &[1, 2, 3]].concat()), BLANK_LISTING);
         let mut short = [0x77; BLANK_LISTING.len() - 1];
-        assert_eq!(list(&reel, &mut short), Err(Refusal::new(3, 0)));
+        assert_eq!(MODEL.list(&reel, &mut short), Err(Refusal::new(3, 0)));
         assert!(short.iter().all(|byte| *byte == 0x77));
     }
 
     #[test]
     fn refusals_are_lines() {
         let reel = blank_reel();
-        assert_eq!(text(&[]), "refused 4 0\n");
-        assert_eq!(list(&reel[..127], &mut [0; 12]), Ok(12));
-        assert_eq!(list(&reel[..127], &mut [0; 11]), Err(Refusal::new(3, 0)));
-        assert_eq!(text(&vec![0; MOST_LISTED]), "refused 5 0\n");
-        assert_eq!(text(&vec![0; MOST_LISTED + 1]), "refused 3 0\n");
+        assert_eq!(MODEL.text(&[]), "refused 4 0\n");
+        assert_eq!(MODEL.list(&reel[..127], &mut [0; 12]), Ok(12));
+        assert_eq!(MODEL.list(&reel[..127], &mut [0; 11]), Err(Refusal::new(3, 0)));
+        assert_eq!(MODEL.text(&vec![0; MOST_LISTED]), "refused 5 0\n");
+        assert_eq!(MODEL.text(&vec![0; MOST_LISTED + 1]), "refused 3 0\n");
         let mut reel = Loose { width: 1, height: 1, frames: 2, chunks: vec![still(), still()], after: Vec::new() };
-        assert_eq!(text(&reel.bytes()), "refused 15 160\n");
+        assert_eq!(MODEL.text(&reel.bytes()), "refused 15 160\n");
         reel.after = vec![0; MOST_LISTED - 160];
-        assert_eq!(text(&reel.bytes()), "refused 15 160\n");
+        assert_eq!(MODEL.text(&reel.bytes()), "refused 15 160\n");
         reel.after.push(0);
-        assert_eq!(text(&reel.bytes()), "refused 3 0\n");
+        assert_eq!(MODEL.text(&reel.bytes()), "refused 3 0\n");
     }
 
     #[test]

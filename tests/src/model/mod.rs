@@ -1,4 +1,5 @@
-//! The model: document 01 read a second time, in plain Rust, sharing nothing with the codec.
+//! The model: document 01 read a second time, in plain Rust, sharing nothing with the codec. Each part of it is a trait
+//! whose methods are the document's rules, in its order; `Document` takes them all as they stand.
 
 pub mod build;
 pub mod check;
@@ -6,35 +7,60 @@ pub mod decode;
 pub mod encode;
 pub mod file_header;
 pub mod listing;
-mod playing;
-pub mod reel;
-pub mod reel_mistakes;
+pub mod playing;
 pub mod top_level;
 pub mod trailer;
-mod walk;
 
-pub use decode::{size_at, word_at};
+use build::Building;
+use check::Checking;
+use decode::Frames;
+use encode::House;
+use file_header::Headers;
+use flic_boundary::{Pair, PairMut, Reel};
+use listing::Listings;
+use playing::Playing;
+use top_level::TopLevel;
+use trailer::Trailers;
+
+pub use build::Outcome;
 pub use file_header::{field, FileHeader, FILE_HEADER};
 pub use listing::{MOST_DEPTH, MOST_LISTED};
-pub use reel::{Outcome, MAX_FRAMES};
 pub use top_level::Span;
 
-use flic_boundary::{Pair, PairMut, Reel};
+/// Document 01 as it stands.
+pub struct Document;
 
-/// The model, with its mistakes.
+/// A reading of document 01, part by part.
 #[derive(Clone, Copy)]
 pub struct Model {
-    pub frames: decode::Mistake,
-    pub house: encode::Mistake,
-    pub reels: reel_mistakes::Mistake,
+    pub frames: &'static dyn Frames,
+    pub house: &'static dyn House,
+    pub headers: &'static dyn Headers,
+    pub top_level: &'static dyn TopLevel,
+    pub playing: &'static dyn Playing,
+    pub checking: &'static dyn Checking,
+    pub building: &'static dyn Building,
+    pub trailers: &'static dyn Trailers,
+    pub listings: &'static dyn Listings,
 }
 
-pub const MODEL: Model =
-    Model { frames: decode::Mistake::None, house: encode::Mistake::None, reels: reel_mistakes::Mistake::None };
+/// The oracle.
+pub const MODEL: Model = Model {
+    frames: &Document,
+    house: &Document,
+    headers: &Document,
+    top_level: &Document,
+    playing: &Document,
+    checking: &Document,
+    building: &Document,
+    trailers: &Document,
+    listings: &Document,
+};
 
+/// The twelve entry points.
 impl Model {
     pub fn read_frame(&self, bytes: &[u8], width: u64, height: u64, shown: PairMut) -> Result<(), Refusal> {
-        decode::read_frame_with(self.frames, bytes, width, height, shown.picture, shown.palette)
+        self.frames.read_frame(bytes, width, height, shown)
     }
 
     pub fn write_frame(
@@ -45,11 +71,7 @@ impl Model {
         next: Pair,
         out: &mut [u8],
     ) -> Result<usize, Refusal> {
-        encode::write_frame_with(self.house, width, height, previous, next, out)
-    }
-
-    pub fn house_frame(&self, width: usize, height: usize, previous: Pair, next: Pair) -> Vec<u8> {
-        encode::house_frame(width, height, previous, next)
+        self.house.write_frame(width, height, previous, next, out)
     }
 
     pub fn rewrite_frame(
@@ -61,48 +83,56 @@ impl Model {
         work: PairMut,
         out: &mut [u8],
     ) -> Result<usize, Refusal> {
-        encode::rewrite_frame_with(self.house, bytes, width, height, previous, work, out)
+        self.house.rewrite_frame(self, bytes, width, height, previous, work, out)
     }
 
     pub fn check_reel(&self, bytes: &[u8], first: PairMut, second: PairMut) -> Result<(), Refusal> {
-        check::check_reel_with(self.reels, bytes, first, second)
+        self.checking.check_reel(self, bytes, first, second)
     }
 
     pub fn open_reel(&self, width: u64, height: u64, speed: u32, bytes: &mut [u8]) -> Outcome {
-        build::open_reel_with(self.reels, width, height, speed, bytes)
+        self.building.open_reel(self, width, height, speed, bytes)
     }
 
     pub fn add_frame(&self, reel: Reel, bytes: &mut [u8], shown: Pair, next: Pair) -> Outcome {
-        build::add_frame_with(self.reels, reel, bytes, shown, next)
+        self.building.add_frame(self, reel, bytes, shown, next)
     }
 
     pub fn close_reel(&self, reel: Reel, bytes: &mut [u8], first: PairMut, second: PairMut) -> Outcome {
-        build::close_reel_with(self.reels, reel, bytes, first, second)
+        self.building.close_reel(self, reel, bytes, first, second)
     }
 
     pub fn check_trailer(&self, bytes: &[u8]) -> Result<(), Refusal> {
-        trailer::check_trailer_with(self.reels, bytes)
+        self.trailers.check_trailer(self, bytes)
     }
 
     pub fn write_trailer(&self, bytes: &mut [u8]) -> Result<usize, Refusal> {
-        trailer::write_trailer_with(self.reels, bytes)
+        self.trailers.write_trailer(self, bytes)
     }
 
     pub fn list(&self, bytes: &[u8], out: &mut [u8]) -> Result<usize, Refusal> {
-        listing::list_with(self.reels, bytes, out)
-    }
-
-    /// The listing's text.
-    pub fn text(&self, bytes: &[u8]) -> String {
-        listing::text(bytes)
+        self.listings.list(self, bytes, out)
     }
 
     pub fn read_header(&self, bytes: &[u8]) -> Result<FileHeader, Refusal> {
-        file_header::read_header_with(self.reels, bytes)
+        self.headers.read_header(bytes)
     }
 
     pub fn next_frame(&self, bytes: &[u8], at: u64) -> Result<Span, Refusal> {
-        top_level::next_frame_with(self.reels, bytes, at)
+        self.top_level.next_frame(bytes, at)
+    }
+}
+
+/// What the inputs of the tests are made with besides.
+impl Model {
+    /// The house frame that leads from `previous` to `next`, of which no slice is too short.
+    pub fn house_frame(&self, width: usize, height: usize, previous: Pair, next: Pair) -> Vec<u8> {
+        self.house.frame(width, height, previous, next)
+    }
+
+    /// A listing's text.
+    pub fn text(&self, bytes: &[u8]) -> String {
+        self.listings.text(self, bytes)
     }
 }
 
@@ -112,6 +142,9 @@ pub const MAX_HEIGHT: u64 = 200;
 
 /// A palette is 256 entries of red, green, blue.
 pub const PALETTE_BYTES: usize = 768;
+
+/// The most frames of a reel, the ring not counted.
+pub const MAX_FRAMES: u64 = 4_000;
 
 pub const FRAME_TYPE: u16 = 0xF1FA;
 pub const PREFIX_TYPE: u16 = 0xF100;
@@ -185,4 +218,25 @@ pub fn long_enough(pixels: usize, pictures: &[&[u8]], palettes: &[&[u8]]) -> Res
     } else {
         Err(Refusal::new(number::SHORT_SLICE, 0))
     }
+}
+
+/// A check that must pass, or else refuses with this number at this place.
+pub fn require(passed: bool, number: u32, place: usize) -> Result<(), Refusal> {
+    if passed {
+        Ok(())
+    } else {
+        Err(Refusal::new(number, place))
+    }
+}
+
+/// The little-endian word at an offset that must be there.
+pub fn word_at(bytes: &[u8], offset: usize) -> u16 {
+    u16::from_le_bytes([bytes[offset], bytes[offset + 1]])
+}
+
+/// The little-endian double word at an offset that must be there.
+pub fn size_at(bytes: &[u8], offset: usize) -> usize {
+    let low = word_at(bytes, offset) as usize;
+    let high = word_at(bytes, offset + 2) as usize;
+    high << 16 | low
 }

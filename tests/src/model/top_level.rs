@@ -1,9 +1,9 @@
-//! The model's top-level chunks: each one's header with its refusals, wherever the walk through a reel has come to.
+//! The top-level chunks: document 01's "Reels", from the header to the ring, and the step from one frame to the next.
 
-use super::decode::{size_at, word_at};
-use super::file_header::{field, FileHeader, FILE_HEADER};
-use super::reel_mistakes::Mistake;
-use super::{number, Refusal, CHUNK_HEADER, FRAME_HEADER, FRAME_TYPE};
+use super::{
+    number, require, size_at, word_at, Document, FileHeader, Refusal, CHUNK_HEADER, FILE_HEADER, FRAME_HEADER,
+    FRAME_TYPE,
+};
 
 /// Where a chunk stands.
 #[derive(Clone, Copy, Debug, PartialEq, Eq)]
@@ -12,118 +12,75 @@ pub struct Span {
     pub end: usize,
 }
 
-/// The next frame chunk from an offset on, where `bytes` are a reel up to its size: other chunks are stepped over, with
-/// the whole-reel check's refusals on the way.
-pub fn next_frame(bytes: &[u8], at: u64) -> Result<Span, Refusal> {
-    next_frame_with(Mistake::None, bytes, at)
-}
+/// What is done with each chunk of a walk.
+pub type Each<'a> = &'a mut dyn FnMut(Span) -> Result<(), Refusal>;
 
-/// `next_frame` with one mistake in it, or none.
-pub fn next_frame_with(mistake: Mistake, bytes: &[u8], at: u64) -> Result<Span, Refusal> {
-    let at = match mistake {
-        Mistake::StepNotBefore128 => at.max(FILE_HEADER as u64),
-        Mistake::OffsetOf32Bits => at & u64::from(u32::MAX),
-        _ => at,
-    };
-    if at > bytes.len() as u64 {
-        return Err(match mistake {
-            Mistake::OffsetPastBytesIs4 => Refusal { number: number::CUT_SHORT, place: at },
-            Mistake::OffsetPastBytesAtEnd => Refusal::new(number::FRAME_MISSING, bytes.len()),
-            Mistake::MissingFrameAtPlace0 => Refusal::new(number::FRAME_MISSING, 0),
-            _ => Refusal { number: number::FRAME_MISSING, place: at },
-        });
-    }
-    let top = TopLevel { mistake, bytes, end: bytes.len() };
-    let mut place = at as usize;
-    if mistake == Mistake::StepFromNextChunk {
-        place = top.chunk_at(place)?.end;
-    }
-    loop {
-        let chunk = match top.chunk_at(place) {
-            Err(refusal) if mistake == Mistake::PlaceOfFirstChunk => return Err(Refusal { place: at, ..refusal }),
-            chunk => chunk?,
-        };
-        if top.is_frame(place) || mistake == Mistake::StepToAnyChunk {
-            return Ok(match mistake {
-                Mistake::SpanWithoutHeader => Span { start: chunk.start + FRAME_HEADER, ..chunk },
-                Mistake::SpanOfLength => Span { end: chunk.end - chunk.start, ..chunk },
-                _ => chunk,
-            });
-        }
-        place = chunk.end;
-    }
-}
+impl TopLevel for Document {}
 
-/// What a file header that was accepted encloses.
-pub(super) struct TopLevel<'a> {
-    mistake: Mistake,
-    bytes: &'a [u8],
-    /// Where the chunks must end.
-    end: usize,
-}
-
-impl<'a> TopLevel<'a> {
-    pub fn of(mistake: Mistake, bytes: &'a [u8], header: &FileHeader) -> TopLevel<'a> {
-        let end = match mistake {
-            Mistake::ChunksPastSizeField => bytes.len(),
-            _ => header.size,
-        };
-        TopLevel { mistake, bytes, end }
-    }
-
-    /// Where the first chunk begins.
-    pub fn start(&self) -> usize {
-        match self.mistake {
-            Mistake::StartsAtOframe1 => size_at(self.bytes, field::OFRAME1).min(self.end),
-            _ => FILE_HEADER,
-        }
-    }
-
-    pub fn is_frame(&self, place: usize) -> bool {
-        word_at(self.bytes, place + 4) == FRAME_TYPE
-    }
-
-    /// The chunk at `place`: six bytes (15), a frame's 16 (4), its size too small (6) or too large (4).
-    pub fn chunk_at(&self, place: usize) -> Result<Span, Refusal> {
-        let left = self.end - place;
-        if left < CHUNK_HEADER {
-            let told = if self.mistake == Mistake::MissingFrameAtPlace0 { 0 } else { place };
-            return Err(Refusal::new(number::FRAME_MISSING, told));
-        }
-        let size = size_at(self.bytes, place);
-        let least = self.least_size(place)?;
-        if self.mistake == Mistake::FrameSizeBeforeLength && size < least {
-            return Err(Refusal::new(number::SIZE_TOO_SMALL, place));
-        }
-        if left < least {
-            let short = if self.mistake == Mistake::ShortFrameIs15 { number::FRAME_MISSING } else { number::CUT_SHORT };
-            return Err(Refusal::new(short, place));
-        }
-        if size < least {
-            return Err(Refusal::new(number::SIZE_TOO_SMALL, place));
-        }
-        if size > left {
-            return Err(Refusal::new(number::CUT_SHORT, place));
-        }
-        Ok(Span { start: place, end: place + size })
-    }
-
-    fn least_size(&self, place: usize) -> Result<usize, Refusal> {
-        match self.mistake {
-            _ if self.is_frame(place) => Ok(FRAME_HEADER),
-            Mistake::PrefixOf16Bytes => Ok(FRAME_HEADER),
-            Mistake::OtherChunksRefused => Err(Refusal::new(number::WRONG_TYPE, place)),
-            _ => Ok(CHUNK_HEADER),
-        }
-    }
-
-    /// What follows the ring is ignored; the mistake is to look at it.
-    pub fn pass_ring(&self, ring: Span) -> Result<(), Refusal> {
-        if self.mistake == Mistake::AfterRingChecked && ring.end < self.end {
-            self.chunk_at(ring.end)?;
+pub trait TopLevel {
+    /// "A 128-byte header .., then chunks. Those not F1FA are stepped over; frames + 1 are read, the last being the ring;
+    /// what follows up to the size is ignored. oframe1 and oframe2 aren't read." Hands on each chunk up to the ring, the
+    /// ring included.
+    fn walk(&self, bytes: &[u8], header: &FileHeader, each: Each) -> Result<(), Refusal> {
+        let (mut place, mut frames) = (FILE_HEADER, 0);
+        while frames < header.frames + 1 {
+            let chunk = self.chunk_at(bytes, header.size, place)?;
+            each(chunk)?;
+            frames += usize::from(is_frame(bytes, place));
+            place = chunk.end;
         }
         Ok(())
     }
+
+    /// "chunks from the front (6 bytes there, else 15; an F1FA needs 16, else 4)", then "size too small (6), size too large
+    /// (4)".
+    fn chunk_at(&self, bytes: &[u8], end: usize, place: usize) -> Result<Span, Refusal> {
+        let left = end - place;
+        if left < CHUNK_HEADER {
+            return Err(self.missing(place as u64));
+        }
+        let size = size_at(bytes, place);
+        let least = self.least_size(word_at(bytes, place + 4));
+        require(left >= least, number::CUT_SHORT, place)?;
+        require(size >= least, number::SIZE_TOO_SMALL, place)?;
+        require(size <= left, number::CUT_SHORT, place)?;
+        Ok(Span { start: place, end: place + size })
+    }
+
+    /// "128, 16 for F1FA, else 6".
+    fn least_size(&self, kind: u16) -> usize {
+        match kind {
+            FRAME_TYPE => FRAME_HEADER,
+            _ => CHUNK_HEADER,
+        }
+    }
+
+    /// 15: "fewer than 6 bytes left within the file's size before frames + 1 frame chunks are met", placed where the chunk
+    /// "should begin".
+    fn missing(&self, place: u64) -> Refusal {
+        Refusal { number: number::FRAME_MISSING, place }
+    }
+
+    /// The next frame chunk from an offset on, where the bytes are a reel up to its size: other chunks are stepped over,
+    /// with the walk's refusals.
+    fn next_frame(&self, bytes: &[u8], at: u64) -> Result<Span, Refusal> {
+        if at > bytes.len() as u64 {
+            return Err(self.missing(at));
+        }
+        let mut place = at as usize;
+        loop {
+            let chunk = self.chunk_at(bytes, bytes.len(), place)?;
+            if is_frame(bytes, place) {
+                return Ok(chunk);
+            }
+            place = chunk.end;
+        }
+    }
+}
+
+/// Whether the chunk at this place is a frame.
+pub fn is_frame(bytes: &[u8], place: usize) -> bool {
+    word_at(bytes, place + 4) == FRAME_TYPE
 }
 
 #[cfg(test)]
@@ -133,7 +90,10 @@ mod tests {
 
     /// Where the next frame stands, or the number and place of the refusal.
     fn found(bytes: &[u8], at: u64) -> Result<(usize, usize), (u32, u64)> {
-        next_frame(bytes, at).map(|span| (span.start, span.end)).map_err(|refusal| (refusal.number, refusal.place))
+        Document
+            .next_frame(bytes, at)
+            .map(|span| (span.start, span.end))
+            .map_err(|refusal| (refusal.number, refusal.place))
     }
 
     #[test]

@@ -1,132 +1,92 @@
-//! The model's trailer: the index of a reel's frames after its size, and the eight bytes behind it that tell of it.
+//! The trailer: the index of a reel's frames after its size, and the eight bytes behind it that tell of it.
 
-use super::file_header::{accepted, FILE_HEADER};
-use super::reel_mistakes::Mistake;
-use super::walk::{walk, Walked};
-use super::{number, Refusal};
+use super::top_level::is_frame;
+use super::{number, require, Document, FileHeader, Model, Refusal, Span};
 
-/// The trailer's own bytes: distance, entries, edition.
-const TRAILER: usize = 8;
-const ENTRY: usize = 4;
+/// The trailer's own bytes.
+pub const TRAILER: usize = 8;
 const EDITION: u16 = 1;
 
-/// Checks what stands after a reel's size: nothing, or exactly the index and the trailer.
-pub fn check_trailer(bytes: &[u8]) -> Result<(), Refusal> {
-    check_trailer_with(Mistake::None, bytes)
+/// A reel that the walk accepted.
+pub struct Walked {
+    pub header: FileHeader,
+    /// The chunks up to the ring, the ring included.
+    pub chunks: Vec<Span>,
+    /// Those of the chunks that are frames, the last being the ring.
+    pub frames: Vec<Span>,
 }
 
-/// `check_trailer` with one mistake in it, or none.
-pub fn check_trailer_with(mistake: Mistake, bytes: &[u8]) -> Result<(), Refusal> {
-    let reel = walk(mistake, bytes)?;
-    let start = index_start(mistake, &reel);
-    if is_right(mistake, &bytes[start..], &index_and_trailer(mistake, &reel)) {
-        return Ok(());
-    }
-    let place = if mistake == Mistake::TrailerFaultAtSize { start } else { 0 };
-    Err(Refusal::new(number::WRONG_TRAILER, place))
+/// "Checking or writing a trailer first walks the header and top-level chunks with their refusals; no sub-chunk is opened
+/// and no ring compared."
+pub fn walked(model: &Model, bytes: &[u8]) -> Result<Walked, Refusal> {
+    let header = model.headers.accepted(bytes, &[], &[])?;
+    let mut chunks = Vec::new();
+    model.top_level.walk(bytes, &header, &mut |chunk| {
+        chunks.push(chunk);
+        Ok(())
+    })?;
+    let frames = chunks.iter().copied().filter(|chunk| is_frame(bytes, chunk.start)).collect();
+    Ok(Walked { header, chunks, frames })
 }
 
-/// Writes index and trailer from the reel's size on, and gives where the file ends then.
-pub fn write_trailer(bytes: &mut [u8]) -> Result<usize, Refusal> {
-    write_trailer_with(Mistake::None, bytes)
-}
+impl Trailers for Document {}
 
-/// `write_trailer` with one mistake in it, or none.
-pub fn write_trailer_with(mistake: Mistake, bytes: &mut [u8]) -> Result<usize, Refusal> {
-    if mistake == Mistake::RoomBeforeChunks {
-        let header = accepted(mistake, bytes, &[], &[])?;
-        if header.size + ENTRY * (header.frames + 1) + TRAILER > bytes.len() {
-            return Err(Refusal::new(number::SHORT_OUTPUT, 0));
-        }
+pub trait Trailers {
+    fn check_trailer(&self, model: &Model, bytes: &[u8]) -> Result<(), Refusal> {
+        let reel = walked(model, bytes)?;
+        let right = self.is_right(&bytes[self.index_start(&reel)..], &self.index_and_trailer(&reel));
+        require(right, number::WRONG_TRAILER, 0)
     }
-    let reel = walk(mistake, bytes)?;
-    let trailer = index_and_trailer(mistake, &reel);
-    let start = index_start(mistake, &reel);
-    let end = start + trailer.len();
-    let needed = if mistake == Mistake::TrailerNeedsOneMore { end + 1 } else { end };
-    if needed > bytes.len() {
-        if mistake == Mistake::TrailerWrittenWhenShort {
-            let room = bytes.len() - start;
-            bytes[start..].copy_from_slice(&trailer[..room]);
-        }
-        return Err(Refusal::new(number::SHORT_OUTPUT, 0));
-    }
-    bytes[start..end].copy_from_slice(&trailer);
-    match mistake {
-        Mistake::RestCleared => bytes[end..].fill(0),
-        Mistake::SizeFieldMoved => bytes[..4].copy_from_slice(&(end as u32).to_le_bytes()),
-        _ => {}
-    }
-    Ok(if mistake == Mistake::LengthOfTrailerAlone { trailer.len() } else { end })
-}
 
-/// The index begins at the reel's size, also where ignored bytes follow the ring.
-fn index_start(mistake: Mistake, reel: &Walked) -> usize {
-    match mistake {
-        Mistake::IndexAtRingEnd => reel.ring().end,
-        _ => reel.header.size,
+    /// Gives where the file ends then. "Writing gives 3 last."
+    fn write_trailer(&self, model: &Model, bytes: &mut [u8]) -> Result<usize, Refusal> {
+        let reel = walked(model, bytes)?;
+        let (start, trailer) = (self.index_start(&reel), self.index_and_trailer(&reel));
+        let end = start + trailer.len();
+        require(end <= bytes.len(), number::SHORT_OUTPUT, 0)?;
+        bytes[start..end].copy_from_slice(&trailer);
+        Ok(end)
     }
-}
 
-/// The one index and trailer that this reel can have.
-fn index_and_trailer(mistake: Mistake, reel: &Walked) -> Vec<u8> {
-    let listed = if mistake == Mistake::IndexOfAllChunks { &reel.chunks } else { &reel.frames };
-    let mut places: Vec<usize> = listed.iter().map(|chunk| chunk.start).collect();
-    match mistake {
-        Mistake::EntriesOffByAFrame => places.rotate_left(1),
-        Mistake::IndexWithoutRing => places.truncate(places.len() - 1),
-        Mistake::PlacesAfterFileHeader => places.iter_mut().for_each(|place| *place -= FILE_HEADER),
-        _ => {}
+    /// "No bytes after the size is also right. All else is 17."
+    fn is_right(&self, rest: &[u8], wanted: &[u8]) -> bool {
+        rest.is_empty() || rest == wanted
     }
-    let entry = |place: &usize| match mistake {
-        Mistake::BigEndianIndex => (*place as u32).to_be_bytes(),
-        _ => (*place as u32).to_le_bytes(),
-    };
-    let distance = match mistake {
-        Mistake::DistanceFromFront => reel.header.size,
-        Mistake::DistanceWithoutTrailer => ENTRY * places.len(),
-        Mistake::DistanceToTrailer => TRAILER,
-        _ => ENTRY * places.len() + TRAILER,
-    };
-    let entries = if mistake == Mistake::EntriesWithoutRing { places.len() - 1 } else { places.len() };
-    let edition = if mistake == Mistake::Edition2 { 2 } else { EDITION };
-    let mut bytes: Vec<u8> = places.iter().flat_map(entry).collect();
-    bytes.extend((distance as u32).to_le_bytes());
-    bytes.extend((entries as u16).to_le_bytes());
-    bytes.extend(edition.to_le_bytes());
-    bytes
-}
 
-fn is_right(mistake: Mistake, rest: &[u8], wanted: &[u8]) -> bool {
-    match mistake {
-        Mistake::AnyRestAccepted => true,
-        Mistake::EmptyRestRefused => rest == wanted,
-        Mistake::ByteAfterAccepted => rest.is_empty() || rest.starts_with(wanted),
-        Mistake::ByteBeforeAccepted => rest.is_empty() || rest.ends_with(wanted),
-        _ => rest.is_empty() || rest == with_unread(mistake, rest, wanted),
+    /// "The index begins at the size."
+    fn index_start(&self, reel: &Walked) -> usize {
+        reel.header.size
     }
-}
 
-/// The mistakes of not reading a field: whatever stands there is taken for what is wanted.
-fn with_unread(mistake: Mistake, rest: &[u8], wanted: &[u8]) -> Vec<u8> {
-    let trailer = wanted.len() - TRAILER;
-    let unread = match mistake {
-        Mistake::IndexUnread => 0..trailer,
-        Mistake::DistanceUnread => trailer..trailer + 4,
-        Mistake::EntriesUnread => trailer + 4..trailer + 6,
-        Mistake::EditionUnread => trailer + 6..trailer + 8,
-        _ => 0..0,
-    };
-    let mut taken = wanted.to_vec();
-    if rest.len() == wanted.len() {
-        taken[unread.clone()].copy_from_slice(&rest[unread]);
+    /// "After the size may stand an index .., then at the very end a trailer".
+    fn index_and_trailer(&self, reel: &Walked) -> Vec<u8> {
+        let places = self.places(reel);
+        [self.index(&places), self.trailer(places.len()).to_vec()].concat()
     }
-    taken
+
+    /// "each frame's offset, ring included".
+    fn places(&self, reel: &Walked) -> Vec<usize> {
+        reel.frames.iter().map(|frame| frame.start).collect()
+    }
+
+    /// "4 bytes for each".
+    fn index(&self, places: &[usize]) -> Vec<u8> {
+        places.iter().flat_map(|place| (*place as u32).to_le_bytes()).collect()
+    }
+
+    /// "distance from the file's end to the index (4), entries (2), edition 1 (2)".
+    fn trailer(&self, entries: usize) -> [u8; TRAILER] {
+        let mut bytes = [0; TRAILER];
+        bytes[..4].copy_from_slice(&((4 * entries + TRAILER) as u32).to_le_bytes());
+        bytes[4..6].copy_from_slice(&(entries as u16).to_le_bytes());
+        bytes[6..].copy_from_slice(&EDITION.to_le_bytes());
+        bytes
+    }
 }
 
 #[cfg(test)]
 mod tests {
-    use super::*;
+    use crate::model::MODEL;
     use crate::reels::examples::blank_reel;
     use crate::reels::loose_reel::Loose;
     use crate::trailers::examples::BLANK_TRAILER;
@@ -134,12 +94,12 @@ mod tests {
     const FILL: u8 = 0x77;
 
     fn checked(bytes: &[u8]) -> Result<(), (u32, u64)> {
-        check_trailer(bytes).map_err(|refusal| (refusal.number, refusal.place))
+        MODEL.check_trailer(bytes).map_err(|refusal| (refusal.number, refusal.place))
     }
 
     fn written(bytes: &[u8]) -> (Result<usize, (u32, u64)>, Vec<u8>) {
         let mut bytes = bytes.to_vec();
-        let answer = write_trailer(&mut bytes).map_err(|refusal| (refusal.number, refusal.place));
+        let answer = MODEL.write_trailer(&mut bytes).map_err(|refusal| (refusal.number, refusal.place));
         (answer, bytes)
     }
 

@@ -1,9 +1,6 @@
 //! What a call answers, whichever it is: the number and the place that all give, and what goes with them.
 
-use crate::model::file_header::FileHeader;
-use crate::model::reel::Outcome;
-use crate::model::top_level::Span as Chunk;
-use crate::model::Refusal;
+use crate::model::{FileHeader, Outcome, Refusal, Span as Chunk};
 use flic_boundary::{Answer, Header, Reel, ReelAnswer, Span, Written};
 
 #[derive(Clone, Copy, Debug, PartialEq, Eq)]

@@ -136,6 +136,6 @@ pub fn ignoring() -> Vec<Wrong> {
 }
 
 /// Wrong models by their names, to be seen in calls of these functions.
-pub fn models<'a>(models: impl IntoIterator<Item = &'a (String, Model)>, functions: &[&'static str]) -> Vec<Wrong> {
-    models.into_iter().map(|(name, model)| Wrong::of(name.clone(), *model, functions)).collect()
+pub fn models(models: Vec<(String, Model)>, functions: &[&'static str]) -> Vec<Wrong> {
+    models.into_iter().map(|(name, model)| Wrong::of(name, model, functions)).collect()
 }

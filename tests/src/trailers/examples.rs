@@ -10,7 +10,7 @@ pub const BLANK_LISTING: &str = "flic 1 1 1\n0 128 61946 16\n0 144 61946 16\nok\
 mod tests {
     use std::fs;
 
-    use crate::model::listing::text;
+    use crate::model::MODEL;
 
     /// The runs that the gate holds the listing program to.
     #[test]
@@ -20,7 +20,7 @@ mod tests {
                 let path = format!("{}/../crates/{program}/{file}", env!("CARGO_MANIFEST_DIR"));
                 fs::read(&path).unwrap_or_else(|error| panic!("{path}: {error}"))
             };
-            assert_eq!(text(&stored("stdin")).into_bytes(), stored("stdout"), "{program}");
+            assert_eq!(MODEL.text(&stored("stdin")).into_bytes(), stored("stdout"), "{program}");
         }
     }
 }

@@ -1,20 +1,49 @@
 //! What is wrong on purpose, and in which calls it must be seen: other readings of document 01, and trespasses.
 
+mod frames;
+mod headers;
+mod house;
+mod listings;
+mod reels;
+mod top_level;
+mod trailers;
+
 use crate::cases::{FAMILIES, SINGLE};
-use crate::model::reel_mistakes::{
-    Mistake, CHUNK_MISTAKES, HEADER_MISTAKES, LISTING_MISTAKES, NEXT_FRAME_MISTAKES, READ_HEADER_MISTAKES,
-    REEL_MISTAKES, TRAILER_MISTAKES, UNOPENED_MISTAKES, WALK_MISTAKES,
-};
-use crate::model::{decode, encode, Model, MODEL};
-use crate::reels::families as reels;
+use crate::model::{Model, MODEL};
+use crate::reels::families as reel_families;
 use crate::runner::calls::Call;
 use crate::runner::compare::Subject;
 use crate::runner::inputs::listed;
 use crate::runner::lent::{Lent, Side};
 use crate::runner::told::{Rest, Told};
 use crate::runner::wrongs::{models, see, Deed, Telling, Trespasser, Wrong};
-use crate::trailers::families as trailers;
+use crate::trailers::families as trailer_families;
 use crate::write_cases::{REWRITE_FAMILIES, SINGLE_REWRITES, SINGLE_WRITES, WRITE_FAMILIES};
+
+/// Other readings of a part of document 01: each takes one rule otherwise, and all others as they stand.
+macro_rules! readings {
+    ($all:ident: $part:ident; $($name:ident { $($rule:tt)* })*) => {
+        $(struct $name;
+
+        impl $part for $name {
+            $($rule)*
+        })*
+
+        pub const $all: &[(&str, &dyn $part)] = &[$((stringify!($name), &$name),)*];
+    };
+}
+
+use readings;
+
+/// Models by name.
+type Models = Vec<(String, Model)>;
+
+/// The model with one part of it taken otherwise.
+macro_rules! with {
+    ($part:ident: $($all:path),*) => {
+        [$($all),*].concat().iter().map(|(name, $part)| (name.to_string(), Model { $part: *$part, ..MODEL })).collect()
+    };
+}
 
 /// A trespass in words, the function that makes it, and what it does to which slice.
 pub type Trespass = (&'static str, &'static str, &'static str, Deed);
@@ -115,30 +144,22 @@ impl Subject for ReadsTrailer {
     }
 }
 
-pub fn frames() -> Vec<(String, Model)> {
-    decode::MISTAKES.map(|mistake| (format!("{mistake:?}"), Model { frames: mistake, ..MODEL })).to_vec()
-}
-
-fn house(mistakes: &[encode::Mistake]) -> Vec<(String, Model)> {
-    mistakes.iter().map(|mistake| (format!("{mistake:?}"), Model { house: *mistake, ..MODEL })).collect()
-}
-
-fn of_reels(lists: &[&[Mistake]]) -> Vec<(String, Model)> {
-    lists.concat().iter().map(|mistake| (format!("{mistake:?}"), Model { reels: *mistake, ..MODEL })).collect()
+pub fn of_frames() -> Models {
+    with!(frames: frames::ALL)
 }
 
 pub fn seen_in_reading(base: u64) -> Vec<Wrong> {
-    let mut all = models(&frames(), &["read_frame"]);
+    let mut all = models(of_frames(), &["read_frame"]);
     all.extend(trespassers(&READING));
     see(&mut all, &listed(&FAMILIES[..SINGLE]), 4_000, base);
     all
 }
 
 pub fn seen_in_writing(base: u64) -> Vec<Wrong> {
-    let mut writes = models(&house(&encode::WRITE_MISTAKES), &["write_frame"]);
+    let mut writes = models(with!(house: house::WRITING), &["write_frame"]);
     writes.extend(trespassers(&WRITING));
     see(&mut writes, &listed(&WRITE_FAMILIES[..SINGLE_WRITES]), 3_000, base);
-    let mut rewrites = models(&house(&encode::REWRITE_MISTAKES), &["rewrite_frame"]);
+    let mut rewrites = models(with!(house: house::REWRITING), &["rewrite_frame"]);
     rewrites.extend(trespassers(&REWRITING));
     see(&mut rewrites, &listed(&REWRITE_FAMILIES[..SINGLE_REWRITES]), 3_000, base);
     writes.extend(rewrites);
@@ -146,31 +167,44 @@ pub fn seen_in_writing(base: u64) -> Vec<Wrong> {
 }
 
 pub fn seen_in_reels(base: u64) -> Vec<Wrong> {
-    let calls = ["check_reel", "open_reel", "add_frame", "close_reel"];
-    let mut all = models(&of_reels(&[HEADER_MISTAKES, CHUNK_MISTAKES, WALK_MISTAKES, REEL_MISTAKES]), &calls);
+    let half_read: Models = with!(frames: frames::ALL);
+    let half_read = half_read.into_iter().filter(|(name, _)| name == "KeepsHalfReadFrame").collect();
+    let wrong: [Models; 6] = [
+        with!(headers: headers::ACCEPTED, headers::REELS),
+        with!(top_level: top_level::CHUNKS, top_level::WALKS),
+        half_read,
+        with!(playing: reels::PLAYING),
+        with!(checking: reels::CHECKING),
+        with!(building: reels::BUILDING),
+    ];
+    let mut all = models(wrong.concat(), &["check_reel", "open_reel", "add_frame", "close_reel"]);
     all.extend(trespassers(&REELS));
-    see(&mut all, &listed(&reels::FAMILIES[..reels::SMALL]), 100, base);
+    see(&mut all, &listed(&reel_families::FAMILIES[..reel_families::SMALL]), 100, base);
     all
 }
 
 /// A wrong walk through a reel must show in each call that walks.
 pub fn seen_in_trailers(base: u64) -> Vec<Wrong> {
-    let walks: &[&[Mistake]] = &[HEADER_MISTAKES, CHUNK_MISTAKES, WALK_MISTAKES, UNOPENED_MISTAKES];
-    let calls: [(&str, &[&[Mistake]]); 5] = [
-        ("check_trailer", walks),
-        ("write_trailer", walks),
-        ("list", walks),
-        ("read_header", &[HEADER_MISTAKES, READ_HEADER_MISTAKES]),
-        ("next_frame", &[CHUNK_MISTAKES, NEXT_FRAME_MISTAKES]),
-    ];
-    let mut all = models(&of_reels(&[TRAILER_MISTAKES, LISTING_MISTAKES]), &["check_trailer", "write_trailer", "list"]);
+    let accepted: Models = with!(headers: headers::ACCEPTED);
+    let chunks: Models = with!(top_level: top_level::CHUNKS);
+    let walks: Models = with!(top_level: top_level::WALKS, top_level::UNOPENED);
+    let (read, steps): (Models, Models) = (with!(headers: headers::READ), with!(top_level: top_level::STEPS));
+    let walking = [accepted.clone(), chunks.clone(), walks].concat();
+    let trailers_and_listings: [Models; 2] = [with!(trailers: trailers::ALL), with!(listings: listings::ALL)];
+    let mut all = models(trailers_and_listings.concat(), &["check_trailer", "write_trailer", "list"]);
     all.extend(trespassers(&TRAILERS));
     all.extend(tellers());
     all.push(Wrong::of("a reel's check that reads the trailer", ReadsTrailer, &[]));
-    for (call, mistakes) in calls {
-        let of_call = models(&of_reels(mistakes), &[call]);
-        all.extend(of_call.into_iter().map(|wrong| Wrong { name: format!("{} in {call}", wrong.name), ..wrong }));
+    for (call, wrong) in [
+        ("check_trailer", walking.clone()),
+        ("write_trailer", walking.clone()),
+        ("list", walking),
+        ("read_header", [accepted, read].concat()),
+        ("next_frame", [chunks, steps].concat()),
+    ] {
+        let of_call = models(wrong, &[call]).into_iter();
+        all.extend(of_call.map(|wrong| Wrong { name: format!("{} in {call}", wrong.name), ..wrong }));
     }
-    see(&mut all, &listed(&trailers::FAMILIES), 100, base);
+    see(&mut all, &listed(&trailer_families::FAMILIES), 100, base);
     all
 }
