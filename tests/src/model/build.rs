@@ -48,8 +48,8 @@ pub trait Building {
         })
     }
 
-    /// Plays an open reel's frames, writes the ring from what shows last, and finishes the header. "A close then plays its
-    /// frames .., with their refusals; .. then 3."
+    /// Plays an open reel's frames, writes the ring from what shows last, and finishes the header. "A close then plays
+    /// its frames .., with their refusals; .. then 3."
     fn close_reel(
         &self,
         model: &Model,
@@ -115,8 +115,8 @@ pub trait Building {
         Ok(end)
     }
 
-    /// "A close then plays its frames from offset 128, back to back, within the record's end"; gives where the second one
-    /// begins.
+    /// "A close then plays its frames from offset 128, back to back, within the record's end"; gives where the second
+    /// one begins.
     fn play_open_reel(&self, model: &Model, reel: Reel, bytes: &[u8], played: &mut Played) -> Result<usize, Refusal> {
         self.record_fits(reel, bytes.len() as u64)?;
         let end = reel.end as usize;

@@ -41,8 +41,8 @@ pub trait Frames {
         Ok(())
     }
 
-    /// "Header of a chunk: length present (4), type (5, frames only), size too small (6), size too large (4)"; any fault
-    /// of the frame header gives place 0.
+    /// "Header of a chunk: length present (4), type (5, frames only), size too small (6), size too large (4)"; any
+    /// fault of the frame header gives place 0.
     fn frame_header(&self, bytes: &[u8]) -> Result<FrameHeader, Refusal> {
         require(bytes.len() >= FRAME_HEADER, number::CUT_SHORT, 0)?;
         let end = size_at(bytes, 0);
@@ -81,8 +81,8 @@ pub trait Frames {
         }
     }
 
-    /// "4, 11 colour. Packet count (2). Each packet: skip, count .. The index starts at 0, moves by the skip, then by the
-    /// count." Checks: "two bytes there (7)", then the packet's.
+    /// "4, 11 colour. Packet count (2). Each packet: skip, count .. The index starts at 0, moves by the skip, then by
+    /// the count." Checks: "two bytes there (7)", then the packet's.
     fn colour(&self, kind: u16, data: &mut Data, screen: &mut Screen) -> Result<(), u32> {
         let packets = data.word()?;
         let mut index = 0;
@@ -176,8 +176,8 @@ pub trait Frames {
         }
     }
 
-    /// "12 LC. First row (2), row count (2) .. Each row: starting x, packet count." Checks: "two bytes (7, also for each
-    /// word and row start)".
+    /// "12 LC. First row (2), row count (2) .. Each row: starting x, packet count." Checks: "two bytes (7, also for
+    /// each word and row start)".
     fn lc(&self, data: &mut Data, screen: &mut Screen) -> Result<(), u32> {
         let (first, count) = (data.word()? as usize, data.word()? as usize);
         self.lc_rows(first, count, screen.height)?;
@@ -257,7 +257,8 @@ pub trait Frames {
         Ok(())
     }
 
-    /// The words of one line; "a word that isn't there is 7, before 11, and 11 before 10". Gives the row of its packets.
+    /// The words of one line; "a word that isn't there is 7, before 11, and 11 before 10". Gives the row of its
+    /// packets.
     fn ss2_line(&self, data: &mut Data, screen: &mut Screen, first_row: usize) -> Result<usize, u32> {
         let mut line = Line { first_row, row: first_row, height: screen.height, last_pixel: None };
         loop {
@@ -277,8 +278,8 @@ pub trait Frames {
         }
     }
 
-    /// "The two high bits of each word decide what it is: 00 packet count, 10 last pixel .., 11 skip down by the absolute
-    /// value as a signed word, 01 refused." 11: "high bits 01, or no packet count after a last-pixel word".
+    /// "The two high bits of each word decide what it is: 00 packet count, 10 last pixel .., 11 skip down by the
+    /// absolute value as a signed word, 01 refused." 11: "high bits 01, or no packet count after a last-pixel word".
     fn ss2_word(&self, word: u16, line: &Line) -> Result<Ss2Word, u32> {
         match word >> 14 {
             0 => Ok(Ss2Word::PacketCount(word as usize)),

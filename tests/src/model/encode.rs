@@ -181,8 +181,8 @@ pub trait House {
         follow(&first)
     }
 
-    /// "Ties within a row, left to right: among first packets that begin a least encoding" .. Gives that encoding's bytes
-    /// and the packet that begins it at column `x`.
+    /// "Ties within a row, left to right: among first packets that begin a least encoding" .. Gives that encoding's
+    /// bytes and the packet that begins it at column `x`.
     fn first_packet(&self, row: &[u8], x: usize, least: &[usize]) -> (usize, BrunPacket) {
         let (most_repeated, most_copied) = self.most_brun();
         let longer = |longer: usize, shorter: usize| self.prefers_longer(longer, shorter);
@@ -277,8 +277,8 @@ pub trait House {
         MOST_SKIPPED
     }
 
-    /// The packets of one stretch of changed pairs, the first of them after `gap` pixels: "otherwise pairs are copied up
-    /// to such a repeat, the stretch's end, or 127".
+    /// The packets of one stretch of changed pairs, the first of them after `gap` pixels: "otherwise pairs are copied
+    /// up to such a repeat, the stretch's end, or 127".
     fn ss2_stretch(&self, gap: usize, pairs: &[&[u8]]) -> Vec<Vec<u8>> {
         let mut packets = Vec::new();
         let (mut at, mut skip) = (0, gap);
@@ -302,8 +302,8 @@ pub trait House {
         packets
     }
 
-    /// How many pairs from `at` on are a repeat, if any: "two or more equal next pairs in a row are one repeat, as long as
-    /// can be, at most 127".
+    /// How many pairs from `at` on are a repeat, if any: "two or more equal next pairs in a row are one repeat, as long
+    /// as can be, at most 127".
     fn repeated(&self, pairs: &[&[u8]], at: usize) -> usize {
         let equal = pairs[at..].iter().take(self.most_pairs()).take_while(|pair| **pair == pairs[at]).count();
         if equal >= 2 {

@@ -47,8 +47,8 @@ pub trait Headers {
         self.accepted(bytes, &[], &[])
     }
 
-    /// "Reel: 4, 5, size field 6 then 4, 2, 14, 1", the last for the slices lent with the reel; "any fault of file header
-    /// .. give[s] place 0".
+    /// "Reel: 4, 5, size field 6 then 4, 2, 14, 1", the last for the slices lent with the reel; "any fault of file
+    /// header .. give[s] place 0".
     fn accepted(&self, bytes: &[u8], pictures: &[&[u8]], palettes: &[&[u8]]) -> Result<FileHeader, Refusal> {
         require(bytes.len() >= FILE_HEADER, number::CUT_SHORT, 0)?;
         let header = FileHeader {
@@ -97,8 +97,8 @@ pub trait Headers {
         flags == FINISHED
     }
 
-    /// "Written: created and updated 0, creator and updater hex 464C4942, aspect .. Speed is the caller's. Size, frames,
-    /// flags and both oframes are 0 until the close".
+    /// "Written: created and updated 0, creator and updater hex 464C4942, aspect .. Speed is the caller's. Size,
+    /// frames, flags and both oframes are 0 until the close".
     fn opened(&self, width: usize, height: usize, speed: u32) -> [u8; FILE_HEADER] {
         let mut header = [0; FILE_HEADER];
         let (aspect_x, aspect_y) = self.aspect(width as u64, height as u64);
@@ -123,8 +123,8 @@ pub trait Headers {
         }
     }
 
-    /// "oframe1 128, oframe2 the second frame chunk (the ring, if there is one frame), flags 3 at the close", "which sets
-    /// no other header byte" than these, size and frames.
+    /// "oframe1 128, oframe2 the second frame chunk (the ring, if there is one frame), flags 3 at the close", "which
+    /// sets no other header byte" than these, size and frames.
     fn close(&self, header: &mut [u8], closing: &Closing) {
         put_double(header, field::SIZE, closing.size);
         put_word(header, field::FRAMES, closing.frames);

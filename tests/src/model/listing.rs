@@ -98,8 +98,8 @@ pub trait Listings {
         is_stamp(chunk) && listing.within.last().is_some_and(|container| is_stamp(*container))
     }
 
-    /// "A container's listing stops at the first child that doesn't fit"; "a child of one of these kinds is opened in its
-    /// turn".
+    /// "A container's listing stops at the first child that doesn't fit"; "a child of one of these kinds is opened in
+    /// its turn".
     fn children(&self, listing: &mut Listing, container: Span) {
         let Some((mut place, count)) = self.holds(listing, container) else {
             return;
@@ -113,8 +113,8 @@ pub trait Listings {
         }
     }
 
-    /// "Chunks of kind 61696 and 61946 hold children after 16 bytes, as many as their count; kind 18 holds one after 12";
-    /// "one shorter than its 16 or 12 bytes lists none".
+    /// "Chunks of kind 61696 and 61946 hold children after 16 bytes, as many as their count; kind 18 holds one after
+    /// 12"; "one shorter than its 16 or 12 bytes lists none".
     fn holds(&self, listing: &Listing, chunk: Span) -> Option<(usize, usize)> {
         let (header, count) = match listing.kind_of(chunk) {
             PREFIX_TYPE | FRAME_TYPE if chunk.start + FRAME_HEADER <= chunk.end => {

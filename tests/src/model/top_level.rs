@@ -18,9 +18,9 @@ pub type Each<'a> = &'a mut dyn FnMut(Span) -> Result<(), Refusal>;
 impl TopLevel for Document {}
 
 pub trait TopLevel {
-    /// "A 128-byte header .., then chunks. Those not F1FA are stepped over; frames + 1 are read, the last being the ring;
-    /// what follows up to the size is ignored. oframe1 and oframe2 aren't read." Hands on each chunk up to the ring, the
-    /// ring included.
+    /// "A 128-byte header .., then chunks. Those not F1FA are stepped over; frames + 1 are read, the last being the
+    /// ring; what follows up to the size is ignored. oframe1 and oframe2 aren't read." Hands on each chunk up to the
+    /// ring, the ring included.
     fn walk(&self, bytes: &[u8], header: &FileHeader, each: Each) -> Result<(), Refusal> {
         let (mut place, mut frames) = (FILE_HEADER, 0);
         while frames < header.frames + 1 {
@@ -32,8 +32,8 @@ pub trait TopLevel {
         Ok(())
     }
 
-    /// "chunks from the front (6 bytes there, else 15; an F1FA needs 16, else 4)", then "size too small (6), size too large
-    /// (4)".
+    /// "chunks from the front (6 bytes there, else 15; an F1FA needs 16, else 4)", then "size too small (6), size too
+    /// large (4)".
     fn chunk_at(&self, bytes: &[u8], end: usize, place: usize) -> Result<Span, Refusal> {
         let left = end - place;
         if left < CHUNK_HEADER {
@@ -55,14 +55,14 @@ pub trait TopLevel {
         }
     }
 
-    /// 15: "fewer than 6 bytes left within the file's size before frames + 1 frame chunks are met", placed where the chunk
-    /// "should begin".
+    /// 15: "fewer than 6 bytes left within the file's size before frames + 1 frame chunks are met", placed where the
+    /// chunk "should begin".
     fn missing(&self, place: u64) -> Refusal {
         Refusal { number: number::FRAME_MISSING, place }
     }
 
-    /// The next frame chunk from an offset on, where the bytes are a reel up to its size: other chunks are stepped over,
-    /// with the walk's refusals.
+    /// The next frame chunk from an offset on, where the bytes are a reel up to its size: other chunks are stepped
+    /// over, with the walk's refusals.
     fn next_frame(&self, bytes: &[u8], at: u64) -> Result<Span, Refusal> {
         if at > bytes.len() as u64 {
             return Err(self.missing(at));

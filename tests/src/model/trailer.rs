@@ -16,8 +16,8 @@ pub struct Walked {
     pub frames: Vec<Span>,
 }
 
-/// "Checking or writing a trailer first walks the header and top-level chunks with their refusals; no sub-chunk is opened
-/// and no ring compared."
+/// "Checking or writing a trailer first walks the header and top-level chunks with their refusals; no sub-chunk is
+/// opened and no ring compared."
 pub fn walked(model: &Model, bytes: &[u8]) -> Result<Walked, Refusal> {
     let header = model.headers.accepted(bytes, &[], &[])?;
     let mut chunks = Vec::new();

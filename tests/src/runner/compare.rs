@@ -144,7 +144,8 @@ impl Comparer<'_> {
         Ok(Agreed { told: Told::done(Rest::Nothing), left: Vec::new() })
     }
 
-    /// Checks a whole reel, writes its trailer, and checks it again: where a trailer is written, the check says the same.
+    /// Checks a whole reel, writes its trailer, and checks it again: where a trailer is written, the check says the
+    /// same.
     fn around(&self, case: &CheckCase, seed: u64) -> Result<Agreed, Difference> {
         let (before, left_before) = self.made(case, seed);
         let written = self.call(&WriteTrailerCase(case.bytes.clone()), seed)?;

@@ -46,7 +46,8 @@ pub fn astray(example: &Example, comparer: Comparer, seed: u64) -> Option<String
     let slices = |slices: &[Vec<u8>]| slices.iter().map(|slice| hex(slice)).collect::<Vec<_>>().join(" ");
     let function = example.call.row().function;
     Some(format!(
-        "document 01's example '{}' is otherwise in flic_{function}\n  lent:   {}\n  found:  {told:?}, {}\n  wanted: {:?}, {}",
+        "document 01's example '{}' is otherwise in flic_{function}\n  lent:   {}\n  found:  {told:?}, {}\n\
+         \x20 wanted: {:?}, {}",
         example.name,
         example.call.slices().iter().map(|slice| hex(slice)).collect::<Vec<_>>().join(" "),
         slices(&left.slices),

@@ -1,6 +1,6 @@
 //! Other listings.
 
-use super::readings;
+use super::{readings, rules};
 use crate::model::listing::{Listing, Listings};
 use crate::model::trailer::{walked, Walked};
 use crate::model::{
@@ -8,55 +8,38 @@ use crate::model::{
     MOST_LISTED, PREFIX_TYPE,
 };
 
+rules! { Listings;
+    OtherMayList: may_list(length: usize) -> bool;
+    OtherLines: lines(model: &Model, bytes: &[u8]) -> Result<String, Refusal>;
+    OtherRefused: refused(refusal: Refusal) -> String;
+    OtherTopLevel: top_level(reel: &Walked) -> Vec<Span>;
+    OtherMayOpen: may_open(depth: usize) -> bool;
+    OtherLine: line(listing: &Listing, chunk: Span) -> String;
+    OtherStaysShut: stays_shut(listing: &Listing, chunk: Span) -> bool;
+    OtherHolds: holds(listing: &Listing, chunk: Span) -> Option<(usize, usize)>;
+    OtherChildren: children(listing: &mut Listing, container: Span) -> ();
+    OtherChildAt: child_at(bytes: &[u8], place: usize, end: usize) -> Option<Span>;
+    OtherList: list(model: &Model, bytes: &[u8], out: &mut [u8]) -> Result<usize, Refusal>;
+}
+
 readings! { ALL: Listings;
-
-LimitOneLess {
-    fn may_list(&self, length: usize) -> bool {
-        length < MOST_LISTED
-    }
-}
-
-LimitOneMore {
-    fn may_list(&self, length: usize) -> bool {
-        length <= MOST_LISTED + 1
-    }
-}
-
-LimitAfterWalk {
-    fn lines(&self, model: &Model, bytes: &[u8]) -> Result<String, Refusal> {
+    LimitOneLess = OtherMayList(|length| length < MOST_LISTED);
+    LimitOneMore = OtherMayList(|length| length <= MOST_LISTED + 1);
+    LimitAfterWalk = OtherLines(|model, bytes| {
         walked(model, bytes)?;
         Document.lines(model, bytes)
-    }
-}
-
-TrailerListed {
-    fn lines(&self, model: &Model, bytes: &[u8]) -> Result<String, Refusal> {
+    });
+    TrailerListed = OtherLines(|model, bytes| {
         let text = Document.lines(model, bytes)?;
         model.check_trailer(bytes)?;
         Ok(text)
-    }
-}
-
-RefusedAtPlace0 {
-    fn refused(&self, refusal: Refusal) -> String {
-        Document.refused(Refusal { place: 0, ..refusal })
-    }
-}
-
-OkLeftOut {
-    fn lines(&self, model: &Model, bytes: &[u8]) -> Result<String, Refusal> {
+    });
+    RefusedAtPlace0 = OtherRefused(|refusal| Document.refused(Refusal { place: 0, ..refusal }));
+    OkLeftOut = OtherLines(|model, bytes| {
         Document.lines(model, bytes).map(|text| text.trim_end_matches("ok\n").to_string())
-    }
-}
-
-RingLeftOut {
-    fn top_level(&self, reel: &Walked) -> Vec<Span> {
-        reel.chunks[..reel.chunks.len() - 1].to_vec()
-    }
-}
-
-AfterRingListed {
-    fn lines(&self, model: &Model, bytes: &[u8]) -> Result<String, Refusal> {
+    });
+    RingLeftOut = OtherTopLevel(|reel| reel.chunks[..reel.chunks.len() - 1].to_vec());
+    AfterRingListed = OtherLines(|model, bytes| {
         let text = Document.lines(model, bytes)?.trim_end_matches("ok\n").to_string();
         let reel = walked(model, bytes)?;
         let mut listing = Listing { bytes, within: Vec::new(), text };
@@ -66,118 +49,57 @@ AfterRingListed {
             place = chunk.end;
         }
         Ok(listing.text + "ok\n")
-    }
-}
-
-Depth9Listed {
-    fn may_open(&self, depth: usize) -> bool {
-        depth < MOST_DEPTH + 1
-    }
-}
-
-Depth8LeftOut {
-    fn may_open(&self, depth: usize) -> bool {
-        depth < MOST_DEPTH - 1
-    }
-}
-
-DepthFrom1 {
-    fn line(&self, listing: &Listing, chunk: Span) -> String {
+    });
+    Depth9Listed = OtherMayOpen(|depth| depth < MOST_DEPTH + 1);
+    Depth8LeftOut = OtherMayOpen(|depth| depth < MOST_DEPTH - 1);
+    DepthFrom1 = OtherLine(|listing, chunk| {
         let line = Document.line(listing, chunk);
         format!("{}{}", listing.within.len() + 1, &line[1..])
-    }
-}
-
-PlacesInContainer {
-    fn line(&self, listing: &Listing, chunk: Span) -> String {
+    });
+    PlacesInContainer = OtherLine(|listing, chunk| {
         let from = listing.within.last().map_or(0, |container| container.start);
         let (depth, kind, size) = (listing.within.len(), listing.kind_of(chunk), chunk.end - chunk.start);
         format!("{depth} {} {kind} {size}\n", chunk.start - from)
-    }
-}
-
-TableOpened {
-    fn stays_shut(&self, _: &Listing, _: Span) -> bool {
-        false
-    }
-}
-
-StampsInStampsShut {
-    fn stays_shut(&self, listing: &Listing, chunk: Span) -> bool {
+    });
+    TableOpened = OtherStaysShut(|_, _| false);
+    StampsInStampsShut = OtherStaysShut(|listing, chunk| {
         let is_stamp = |chunk: &Span| listing.kind_of(*chunk) == kind::PSTAMP;
         is_stamp(&chunk) && listing.within.iter().any(is_stamp)
-    }
-}
-
-StampsShut {
-    fn stays_shut(&self, listing: &Listing, chunk: Span) -> bool {
-        listing.kind_of(chunk) == kind::PSTAMP
-    }
-}
-
-TopStampsShut {
-    fn stays_shut(&self, listing: &Listing, chunk: Span) -> bool {
+    });
+    StampsShut = OtherStaysShut(|listing, chunk| listing.kind_of(chunk) == kind::PSTAMP);
+    TopStampsShut = OtherStaysShut(|listing, chunk| {
         Document.stays_shut(listing, chunk) || (listing.kind_of(chunk) == kind::PSTAMP && listing.within.is_empty())
-    }
-}
-
-PrefixShut {
-    fn stays_shut(&self, listing: &Listing, chunk: Span) -> bool {
+    });
+    PrefixShut = OtherStaysShut(|listing, chunk| {
         Document.stays_shut(listing, chunk) || listing.kind_of(chunk) == PREFIX_TYPE
-    }
-}
-
-InnerPrefixShut {
-    fn stays_shut(&self, listing: &Listing, chunk: Span) -> bool {
+    });
+    InnerPrefixShut = OtherStaysShut(|listing, chunk| {
         Document.stays_shut(listing, chunk) || (listing.kind_of(chunk) == PREFIX_TYPE && !listing.within.is_empty())
-    }
-}
-
-InnerFramesShut {
-    fn stays_shut(&self, listing: &Listing, chunk: Span) -> bool {
+    });
+    InnerFramesShut = OtherStaysShut(|listing, chunk| {
         Document.stays_shut(listing, chunk) || (listing.kind_of(chunk) == FRAME_TYPE && !listing.within.is_empty())
-    }
-}
-
-StampChildAfter16 {
-    fn holds(&self, listing: &Listing, chunk: Span) -> Option<(usize, usize)> {
+    });
+    StampChildAfter16 = OtherHolds(|listing, chunk| {
         let (place, count) = Document.holds(listing, chunk)?;
         match listing.kind_of(chunk) {
             kind::PSTAMP if chunk.start + FRAME_HEADER > chunk.end => None,
             kind::PSTAMP => Some((chunk.start + FRAME_HEADER, count)),
             _ => Some((place, count)),
         }
-    }
-}
-
-StampOfManyChildren {
-    fn holds(&self, listing: &Listing, chunk: Span) -> Option<(usize, usize)> {
+    });
+    StampOfManyChildren = OtherHolds(|listing, chunk| {
         let many = listing.kind_of(chunk) == kind::PSTAMP;
         Document.holds(listing, chunk).map(|(place, count)| (place, if many { usize::MAX } else { count }))
-    }
-}
-
-CountUnread {
-    fn holds(&self, listing: &Listing, chunk: Span) -> Option<(usize, usize)> {
-        Document.holds(listing, chunk).map(|(place, _)| (place, usize::MAX))
-    }
-}
-
-CountOneLess {
-    fn holds(&self, listing: &Listing, chunk: Span) -> Option<(usize, usize)> {
+    });
+    CountUnread = OtherHolds(|listing, chunk| Document.holds(listing, chunk).map(|(place, _)| (place, usize::MAX)));
+    CountOneLess = OtherHolds(|listing, chunk| {
         let is_counted = listing.kind_of(chunk) != kind::PSTAMP;
         Document.holds(listing, chunk).map(|(place, count)| (place, count.saturating_sub(usize::from(is_counted))))
-    }
-}
-
-CountOfOneByte {
-    fn holds(&self, listing: &Listing, chunk: Span) -> Option<(usize, usize)> {
+    });
+    CountOfOneByte = OtherHolds(|listing, chunk| {
         Document.holds(listing, chunk).map(|(place, count)| (place, count & 0xFF))
-    }
-}
-
-ShortContainerOpened {
-    fn children(&self, listing: &mut Listing, container: Span) {
+    });
+    ShortContainerOpened = OtherChildren(|listing, container| {
         let header = match listing.kind_of(container) {
             kind::PSTAMP => 12,
             PREFIX_TYPE | FRAME_TYPE => FRAME_HEADER,
@@ -194,87 +116,56 @@ ShortContainerOpened {
                 listing.text.push_str(&line);
             }
         }
-    }
-}
-
-MisfitSteppedOver {
-    fn children(&self, listing: &mut Listing, container: Span) {
-        each_child(self, listing, container, |listing, place| {
+    });
+    MisfitSteppedOver = OtherChildren(|listing, container| {
+        each_child(listing, container, |listing, place| {
             if let Some(child) = Document.child_at(listing.bytes, place + CHUNK_HEADER, container.end) {
-                self.chunk(listing, child);
+                Document.chunk(listing, child);
             }
         });
-    }
-}
-
-ChildPastContainerListed {
-    fn children(&self, listing: &mut Listing, container: Span) {
-        each_child(self, listing, container, |listing, place| {
+    });
+    ChildPastContainerListed = OtherChildren(|listing, container| {
+        each_child(listing, container, |listing, place| {
             if let Some(child) = Document.child_at(listing.bytes, place, listing.bytes.len()) {
                 let line = Document.line(listing, child);
                 listing.text.push_str(&line);
             }
         });
-    }
-}
-
-ChildToTheEndMisfits {
-    fn child_at(&self, bytes: &[u8], place: usize, end: usize) -> Option<Span> {
+    });
+    ChildToTheEndMisfits = OtherChildAt(|bytes, place, end| {
         Document.child_at(bytes, place, end).filter(|child| child.end < end)
-    }
-}
-
-ChildOfHeaderAloneMisfits {
-    fn child_at(&self, bytes: &[u8], place: usize, end: usize) -> Option<Span> {
+    });
+    ChildOfHeaderAloneMisfits = OtherChildAt(|bytes, place, end| {
         Document.child_at(bytes, place, end).filter(|child| child.end - child.start > CHUNK_HEADER)
-    }
-}
-
-ChildFramesOf16 {
-    fn child_at(&self, bytes: &[u8], place: usize, end: usize) -> Option<Span> {
+    });
+    ChildFramesOf16 = OtherChildAt(|bytes, place, end| {
         let is_right = |child: &Span| word_at(bytes, place + 4) != FRAME_TYPE || child.end - place >= FRAME_HEADER;
         Document.child_at(bytes, place, end).filter(is_right)
-    }
-}
-
-RefusalsAnswered {
-    fn list(&self, model: &Model, bytes: &[u8], out: &mut [u8]) -> Result<usize, Refusal> {
+    });
+    RefusalsAnswered = OtherList(|model, bytes, out| {
         Document.lines(model, bytes)?;
         Document.list(model, bytes, out)
-    }
-}
-
-OutNeedsOneMore {
-    fn list(&self, model: &Model, bytes: &[u8], out: &mut [u8]) -> Result<usize, Refusal> {
+    });
+    OutNeedsOneMore = OtherList(|model, bytes, out| {
         require(Document.text(model, bytes).len() < out.len(), number::SHORT_OUTPUT, 0)?;
         Document.list(model, bytes, out)
-    }
-}
-
-ListingWrittenWhenShort {
-    fn list(&self, model: &Model, bytes: &[u8], out: &mut [u8]) -> Result<usize, Refusal> {
+    });
+    ListingWrittenWhenShort = OtherList(|model, bytes, out| {
         let text = Document.text(model, bytes).into_bytes();
         let room = text.len().min(out.len());
         out[..room].copy_from_slice(&text[..room]);
         Document.list(model, bytes, out)
-    }
-}
-
+    });
 }
 
 /// Lists the children that fit, and does something else where one doesn't.
-fn each_child(
-    listings: &dyn Listings,
-    listing: &mut Listing,
-    container: Span,
-    misfit: impl FnOnce(&mut Listing, usize),
-) {
+fn each_child(listing: &mut Listing, container: Span, misfit: impl FnOnce(&mut Listing, usize)) {
     let Some((mut place, count)) = Document.holds(listing, container) else { return };
     for _ in 0..count {
         let Some(child) = Document.child_at(listing.bytes, place, container.end) else {
             return misfit(listing, place);
         };
-        listings.chunk(listing, child);
+        Document.chunk(listing, child);
         place = child.end;
     }
 }

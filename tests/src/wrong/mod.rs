@@ -20,20 +20,27 @@ use crate::runner::wrongs::{models, see, Deed, Telling, Trespasser, Wrong};
 use crate::trailers::families as trailer_families;
 use crate::write_cases::{REWRITE_FAMILIES, SINGLE_REWRITES, SINGLE_WRITES, WRITE_FAMILIES};
 
-/// Other readings of a part of document 01: each takes one rule otherwise, and all others as they stand.
-macro_rules! readings {
-    ($all:ident: $part:ident; $($name:ident { $($rule:tt)* })*) => {
-        $(struct $name;
+/// For a rule of a part of document 01: readings that take this rule otherwise, and all others as they stand.
+macro_rules! rules {
+    ($part:ident; $($name:ident: $rule:ident($($argument:ident: $type:ty),*) -> $result:ty;)*) => {
+        $(struct $name(fn($($type),*) -> $result);
 
         impl $part for $name {
-            $($rule)*
+            fn $rule(&self, $($argument: $type),*) -> $result {
+                (self.0)($($argument),*)
+            }
         })*
-
-        pub const $all: &[(&str, &dyn $part)] = &[$((stringify!($name), &$name),)*];
     };
 }
 
-use readings;
+/// Such readings by their names.
+macro_rules! readings {
+    ($all:ident: $part:ident; $($name:ident = $reading:expr;)*) => {
+        pub const $all: &[(&str, &dyn $part)] = &[$((stringify!($name), &$reading),)*];
+    };
+}
+
+use {readings, rules};
 
 /// Models by name.
 type Models = Vec<(String, Model)>;
