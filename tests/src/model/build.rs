@@ -26,7 +26,8 @@ impl Outcome {
 impl Building for Document {}
 
 pub trait Building {
-    /// Writes the header of an empty reel: "2, 1, 3". The record of a refused open is all 0.
+    /// Writes the header of an empty reel. "Writing: 18, 2, 1, 3", of which an open can meet 2 and 3; the record of a
+    /// refused one is all 0.
     fn open_reel(&self, model: &Model, width: u64, height: u64, speed: u32, bytes: &mut [u8]) -> Outcome {
         Outcome::of(Reel::default(), || {
             let (columns, rows) = accepted_size(width, height)?;

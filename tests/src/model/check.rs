@@ -8,8 +8,7 @@ use flic_boundary::PairMut;
 impl Checking for Document {}
 
 pub trait Checking {
-    /// "Reel: 4, 5, size field 6 then 4, 2, 14, 1, then chunks from the front". "Once the checks up to 1 have passed",
-    /// the pairs are set, whatever is answered.
+    /// "Reel: 4, 5, size field 6 then 4, 2, 14, 1, then chunks from the front".
     fn check_reel(&self, model: &Model, bytes: &[u8], first: PairMut, second: PairMut) -> Result<(), Refusal> {
         let pictures = [&*first.picture, &*second.picture];
         let header = model.headers.accepted(bytes, &pictures, &[&*first.palette, &*second.palette])?;
@@ -17,6 +16,7 @@ pub trait Checking {
         self.play_and_leave(model, bytes, &header, played, first, second)
     }
 
+    /// "Once the checks up to 1 have passed", the pairs are set, whatever is answered.
     fn play_and_leave(
         &self,
         model: &Model,

@@ -447,15 +447,6 @@ mod tests {
     }
 
     #[test]
-    fn the_four_by_two_frame_of_document_01() {
-        let bytes = [0x1C, 0, 0, 0, 0xFA, 0xF1, 1, 0, 0, 0, 0, 0, 0, 0, 0, 0, 0x0C, 0, 0, 0, 0x0F, 0, 1, 4, 0, 1, 4, 5];
-        let read = read(&bytes, 4, 2);
-        assert_eq!(read.answer, Ok(()));
-        assert_eq!(read.picture, [0, 0, 0, 0, 5, 5, 5, 5]);
-        assert_eq!(read.palette, [FILL; PALETTE_BYTES]);
-    }
-
-    #[test]
     fn ss2_bodies_of_document_01() {
         let mut expected = [FILL; 100];
         expected[10..12].fill(0);

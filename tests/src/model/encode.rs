@@ -474,27 +474,6 @@ mod tests {
     }
 
     #[test]
-    fn the_four_by_two_frame_of_document_01() {
-        let expected =
-            [0x1C, 0, 0, 0, 0xFA, 0xF1, 1, 0, 0, 0, 0, 0, 0, 0, 0, 0, 0x0C, 0, 0, 0, 0x0F, 0, 1, 4, 0, 1, 4, 5];
-        assert_eq!(written(4, &[0; 8], &[0, 0, 0, 0, 5, 5, 5, 5]), expected);
-    }
-
-    #[test]
-    fn small_frames_of_document_01() {
-        assert_eq!(written(2, &[0, 0], &[1, 2])[16..], [8, 0, 0, 0, 16, 0, 1, 2]);
-        assert_eq!(written(2, &[1, 2], &[1, 2]), [16, 0, 0, 0, 0xFA, 0xF1, 0, 0, 0, 0, 0, 0, 0, 0, 0, 0]);
-    }
-
-    #[test]
-    fn the_delta_of_document_01() {
-        let previous: Vec<u8> = (0..100).collect();
-        let mut next = previous.clone();
-        next[10..12].fill(0);
-        assert_eq!(written(100, &previous, &next)[16..], [14, 0, 0, 0, 7, 0, 1, 0, 1, 0, 0x0A, 1, 0, 0]);
-    }
-
-    #[test]
     fn an_odd_last_column_takes_the_last_pixel_word() {
         let previous: Vec<u8> = (1..=101).collect();
         let mut next = previous.clone();

@@ -117,6 +117,7 @@ impl Comparer<'_> {
                 let (read, wanted) = (&left.slices[2][..PALETTE_BYTES], &next.palette[..PALETTE_BYTES]);
                 check_content("palette read back", read, wanted)
             })
+            .and_then(|()| stays_inside(case.row().lends, &left))
             .map_err(|what| difference(found, wanted, what))
     }
 
@@ -156,6 +157,7 @@ impl Comparer<'_> {
             require(after == before && pairs(&left) == pairs(&left_before), || {
                 "the check after the trailer was written (library) and before (model), or what they left".to_string()
             })
+            .and_then(|()| stays_inside(case.row().lends, &left))
             .map_err(|what| difference(after, before, what))?;
         }
         Ok(Agreed { told: before, left: Vec::new() })
@@ -179,6 +181,10 @@ fn check_left(names: &[&str], left: &Left, wanted: &[Vec<u8>]) -> Result<(), Str
     for ((name, found), wanted) in names.iter().zip(&left.slices).zip(wanted) {
         check_content(name, found, wanted)?;
     }
+    stays_inside(names, left)
+}
+
+fn stays_inside(names: &[&str], left: &Left) -> Result<(), String> {
     match left.trespass {
         Some(which) => Err(format!("the {}: a byte outside the lent slice was written", names[which])),
         None => Ok(()),

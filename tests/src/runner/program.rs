@@ -17,6 +17,8 @@ pub struct Program {
     pub unit: &'static str,
     pub base: u64,
     pub families: Vec<&'static dyn Inputs>,
+    /// No whole run may compare fewer.
+    pub least: u64,
     /// The rows of the calls in them.
     pub rows: Vec<&'static Row>,
     pub examples: Vec<Example>,
@@ -53,6 +55,10 @@ impl Program {
         if !met.missing().is_empty() {
             let missed = format!("{name}: never met (0: done, or an unknown kind): {}", met.missing().join(", "));
             fail(&missed, "add inputs to the families that meet them");
+        }
+        if met.calls() < self.least {
+            let only = format!("{name}: only {} {}", met.calls(), self.unit);
+            fail(&only, &format!("raise the batches to {} or more", self.least));
         }
         println!("{name}: {} {} compared, 0 differences", met.calls(), self.unit);
     }

@@ -17,7 +17,6 @@ rules! { Listings;
     OtherLine: line(listing: &Listing, chunk: Span) -> String;
     OtherStaysShut: stays_shut(listing: &Listing, chunk: Span) -> bool;
     OtherHolds: holds(listing: &Listing, chunk: Span) -> Option<(usize, usize)>;
-    OtherChildren: children(listing: &mut Listing, container: Span) -> ();
     OtherChildAt: child_at(bytes: &[u8], place: usize, end: usize) -> Option<Span>;
     OtherList: list(model: &Model, bytes: &[u8], out: &mut [u8]) -> Result<usize, Refusal>;
 }
@@ -99,38 +98,20 @@ readings! { ALL: Listings;
     CountOfOneByte = OtherHolds(|listing, chunk| {
         Document.holds(listing, chunk).map(|(place, count)| (place, count & 0xFF))
     });
-    ShortContainerOpened = OtherChildren(|listing, container| {
-        let header = match listing.kind_of(container) {
-            kind::PSTAMP => 12,
-            PREFIX_TYPE | FRAME_TYPE => FRAME_HEADER,
-            _ => return,
-        };
-        if container.start + header <= container.end {
-            return Document.children(listing, container);
-        }
-        let has_children = listing.kind_of(container) == kind::PSTAMP
-            || (container.start + 8 <= listing.bytes.len() && word_at(listing.bytes, container.start + 6) > 0);
-        if let Some(child) = Document.child_at(listing.bytes, container.start + header, listing.bytes.len()) {
-            if has_children {
-                let line = Document.line(listing, child);
-                listing.text.push_str(&line);
-            }
+    ShortContainerOpened = Misfit(|_, listing, container, place| {
+        if place > container.end {
+            list_line(listing, place);
         }
     });
-    MisfitSteppedOver = OtherChildren(|listing, container| {
-        each_child(listing, container, |listing, place| {
-            if let Some(child) = Document.child_at(listing.bytes, place + CHUNK_HEADER, container.end) {
-                Document.chunk(listing, child);
-            }
-        });
+    MisfitSteppedOver = Misfit(|listings, listing, container, place| {
+        if let Some(child) = Document.child_at(listing.bytes, place + CHUNK_HEADER, container.end) {
+            listings.chunk(listing, child);
+        }
     });
-    ChildPastContainerListed = OtherChildren(|listing, container| {
-        each_child(listing, container, |listing, place| {
-            if let Some(child) = Document.child_at(listing.bytes, place, listing.bytes.len()) {
-                let line = Document.line(listing, child);
-                listing.text.push_str(&line);
-            }
-        });
+    ChildPastContainerListed = Misfit(|_, listing, container, place| {
+        if place <= container.end {
+            list_line(listing, place);
+        }
     });
     ChildToTheEndMisfits = OtherChildAt(|bytes, place, end| {
         Document.child_at(bytes, place, end).filter(|child| child.end < end)
@@ -158,14 +139,32 @@ readings! { ALL: Listings;
     });
 }
 
-/// Lists the children that fit, and does something else where one doesn't.
-fn each_child(listing: &mut Listing, container: Span, misfit: impl FnOnce(&mut Listing, usize)) {
-    let Some((mut place, count)) = Document.holds(listing, container) else { return };
-    for _ in 0..count {
-        let Some(child) = Document.child_at(listing.bytes, place, container.end) else {
-            return misfit(listing, place);
-        };
-        Document.chunk(listing, child);
-        place = child.end;
+/// Listings that do something else than to stop at the place of the first child that doesn't fit; that of a container
+/// shorter than its header lies past it.
+struct Misfit(fn(&dyn Listings, &mut Listing, Span, usize));
+
+impl Listings for Misfit {
+    fn children(&self, listing: &mut Listing, container: Span) {
+        let Some((mut place, count)) = holds_if_longer(listing, container) else { return };
+        for _ in 0..count {
+            let Some(child) = Document.child_at(listing.bytes, place, container.end) else {
+                return (self.0)(self, listing, container, place);
+            };
+            self.chunk(listing, child);
+            place = child.end;
+        }
+    }
+}
+
+/// What a chunk would hold if it were as long as all the bytes from its start on.
+fn holds_if_longer(listing: &Listing, chunk: Span) -> Option<(usize, usize)> {
+    Document.holds(listing, Span { end: listing.bytes.len(), ..chunk })
+}
+
+/// Lists what stands at this place, whatever container it is in.
+fn list_line(listing: &mut Listing, place: usize) {
+    if let Some(child) = Document.child_at(listing.bytes, place, listing.bytes.len()) {
+        let line = Document.line(listing, child);
+        listing.text.push_str(&line);
     }
 }

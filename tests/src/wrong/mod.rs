@@ -173,21 +173,27 @@ pub fn seen_in_writing(base: u64) -> Vec<Wrong> {
     writes
 }
 
+/// Wrong playing must show in a check and in a close.
 pub fn seen_in_reels(base: u64) -> Vec<Wrong> {
-    let half_read: Models = with!(frames: frames::ALL);
-    let half_read = half_read.into_iter().filter(|(name, _)| name == "KeepsHalfReadFrame").collect();
-    let wrong: [Models; 6] = [
+    let wrong: [Models; 4] = [
         with!(headers: headers::ACCEPTED, headers::REELS),
         with!(top_level: top_level::CHUNKS, top_level::WALKS),
-        half_read,
-        with!(playing: reels::PLAYING),
         with!(checking: reels::CHECKING),
         with!(building: reels::BUILDING),
     ];
+    let half_read = of_frames().into_iter().filter(|(name, _)| name == "KeepsHalfReadFrame").collect();
+    let playing: [Models; 2] = [with!(playing: reels::PLAYING), half_read];
     let mut all = models(wrong.concat(), &["check_reel", "open_reel", "add_frame", "close_reel"]);
+    all.extend(in_call("check_reel", playing.concat()));
+    all.extend(in_call("close_reel", playing.concat()));
     all.extend(trespassers(&REELS));
     see(&mut all, &listed(&reel_families::FAMILIES[..reel_families::SMALL]), 100, base);
     all
+}
+
+/// Wrong models that must be seen in one call, by names that tell it.
+fn in_call(call: &'static str, wrong: Models) -> Vec<Wrong> {
+    models(wrong.into_iter().map(|(name, model)| (format!("{name} in {call}"), model)).collect(), &[call])
 }
 
 /// A wrong walk through a reel must show in each call that walks.
@@ -209,8 +215,7 @@ pub fn seen_in_trailers(base: u64) -> Vec<Wrong> {
         ("read_header", [accepted, read].concat()),
         ("next_frame", [chunks, steps].concat()),
     ] {
-        let of_call = models(wrong, &[call]).into_iter();
-        all.extend(of_call.map(|wrong| Wrong { name: format!("{} in {call}", wrong.name), ..wrong }));
+        all.extend(in_call(call, wrong));
     }
     see(&mut all, &listed(&trailer_families::FAMILIES), 100, base);
     all
