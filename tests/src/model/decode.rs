@@ -7,7 +7,7 @@ use super::{
 use flic_boundary::PairMut;
 
 const COLOURS: usize = PALETTE_BYTES / 3;
-const TOP_LEVEL: u8 = 63;
+const MOST_LEVEL: u8 = 63;
 
 impl Frames for Document {}
 
@@ -124,7 +124,7 @@ pub trait Frames {
 
     /// 13: "a kind 11 component over 63".
     fn levels(&self, kind: u16, stored: &[u8]) -> Result<(), u32> {
-        if kind == kind::COLOR && stored.iter().any(|level| *level > TOP_LEVEL) {
+        if kind == kind::COLOR && stored.iter().any(|level| *level > MOST_LEVEL) {
             return Err(number::LEVEL_OVER_63);
         }
         Ok(())

@@ -1,12 +1,12 @@
 //! What is wrong on purpose, and the search for inputs that show it: a comparison that can't fail says nothing.
 
-use super::calls::{Call, Row, ROWS};
+use super::calls::{Call, ROWS};
 use super::compare::{Comparer, Subject};
 use super::guards::GuardBytes;
 use super::inputs::Inputs;
 use super::lent::{Lent, Side};
 use super::told::Told;
-use crate::model::{Model, MODEL};
+use crate::model::{Model, MODEL, PALETTE_BYTES};
 
 /// Something wrong that stands in for the library, so that no fault of the library's can hide it; the calls in which it
 /// must be seen; and after how many inputs it was.
@@ -78,26 +78,21 @@ pub struct Trespasser {
     pub deed: Deed,
 }
 
-impl Trespasser {
-    fn row(&self) -> &'static Row {
-        ROWS.iter().find(|row| row.function == self.function).expect("a trespasser names an entry point")
-    }
-}
-
 impl Subject for Trespasser {
     fn call(&self, call: &dyn Call, lent: &mut Lent) -> Told {
         let told = call.model(&MODEL, lent);
         if call.row().function != self.function {
             return told;
         }
-        let which = self.row().lends.iter().position(|name| *name == self.slice).expect("a slice of this entry point");
-        let length = lent.length(which) as u64;
+        let lends = call.row().lends;
+        let which = lends.iter().position(|name| *name == self.slice).expect("a slice of this entry point");
+        let length = lent.length(which);
         match self.deed {
             Deed::WritesBeside(side) => lent.spoil_beside(which, side),
             Deed::Changes => lent.spoil_last(which),
             Deed::ChangesWhenRefused if told.number != 0 => lent.spoil_last(which),
-            Deed::ChangesPast if told.number == 0 && told.length() < length => lent.spoil_last(which),
-            Deed::ChangesExcess if length > 768 => lent.spoil_last(which),
+            Deed::ChangesPast if told.number == 0 && told.length() < length as u64 => lent.spoil_last(which),
+            Deed::ChangesExcess if length > PALETTE_BYTES => lent.spoil_last(which),
             _ => {}
         }
         told
