@@ -32,7 +32,17 @@ fn is_name(word: &str) -> bool {
 /// What a line of a definition or of code declares.
 fn declared(line: &str) -> Vec<String> {
     let line = line.trim();
-    let code = ["pub fn ", "pub extern \"C\" fn ", "fn ", "pub struct ", "struct ", "pub enum ", "enum ", "pub const ", "const "];
+    let code = [
+        "pub fn ",
+        "pub extern \"C\" fn ",
+        "fn ",
+        "pub struct ",
+        "struct ",
+        "pub enum ",
+        "enum ",
+        "pub const ",
+        "const ",
+    ];
     for start in code {
         if let Some(rest) = line.strip_prefix(start) {
             let end = rest.find(|c: char| !c.is_alphanumeric() && c != '_').unwrap_or(rest.len());
