@@ -3,13 +3,13 @@
 -- 2. the walk from an offset on is the walk of the rest, every offset and place moved (`next-moved`, `spans-moved`).
 -- The idea: a header is the same word by word wherever the list begins or ends, as long as its chunk lies in it.
 use mathlib.Core.Path.{_≡_, refl, sym, ap, ap₂, _∙_}
-use mathlib.Core.List.{List, [], _∷_}
+use mathlib.Core.List.{List, [], _∷_, _++_}
 use mathlib.Core.Bool.{Bool, true, false, cond}
 use Prim.Native.Nat.{ℕ, suc, _+_, _*_, _-_, _≤_}
 use native.Mathlib.Omega.{arith}
 use borrow.Author.Tests.{le-leb, lt-leb, leb-true, leb-false, eqb-true, eqb-false}
-use lib.ListN.{length, take, drop, length-take, length-drop}
-use lib.Seq.{getD-take, drop-drop}
+use lib.ListN.{length, take, drop, length-take, length-drop, length-append}
+use lib.Seq.{getD-take, drop-drop, length-take-le, take-at}
 use lib.Dec.{leb, eqb}
 use Rattle.words.specs.Words.{u16At, u32At}
 use Rattle.words.proofs.There.{drop-word, drop-word32}
@@ -109,6 +109,21 @@ spans-prefix layout n b count at =
     (λ m k kind end q rest d. spans-more layout b m k
     ∙ ap (λ (x : Header). afterHeader k x (λ kind end. spans layout b (leftAfter kind m) end)) (top-prefix n b k layout kind end q)
     ∙ ap (λ (s : Spans). walked (span kind k end ∷ s .met) (s .answer)) (rest d)) count at
+
+-- the bytes of a frame alone have its header, whatever follows them
+pub frame-alone : (x more : List ℕ) (count size : ℕ) → frameHeader x ≡ whole.Frame count size → frameHeader (take size x ++ more) ≡ whole.Frame count size
+frame-alone x more count size q =
+    let i = frame-in x (whole.Frame count size) q in
+    let y = take size x ++ more in
+    let l : length (take size x) ≡ size = length-take-le size x (i .1) in
+    let m = length-append (take size x) more in
+    let front : take size y ≡ take size x = take-at (take size x) more size l in
+    let word : (j : ℕ) → j + 2 ≤ 16 → u16At y j ≡ u16At x j =
+    (λ j h. sym (word-prefix size y j (omega (arith, i .0))) ∙ ap (λ (u : List ℕ). u16At u j) front ∙ word-prefix size x j (omega (arith, i .0))) in
+    let e : u32At y 0 ≡ u32At x 0 =
+    sym (word32-prefix size y 0 (omega (arith, i .0))) ∙ ap (λ (u : List ℕ). u32At u 0) front ∙ word32-prefix size x 0 (omega (arith, i .0)) in
+    sym (frame-whole y count size (i .3 ∙ sym (word 6 (omega arith))) (i .4 ∙ sym e) (omega (arith, i .0, l, m)) (word 4 (omega arith) ∙ i .2)
+    (omega (arith, i .0, i .4, e)) (omega (arith, i .4, e, l, m)))
 
 -- 2. in the rest
 

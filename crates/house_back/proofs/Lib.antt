@@ -1,2 +1,3 @@
 pub mod Frames
 pub mod ReadsBack
+pub mod Demand2

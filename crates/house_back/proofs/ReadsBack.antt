@@ -13,6 +13,7 @@ use Rattle.words.specs.Words.{chunk, same, Bytes}
 use Rattle.words.specs.Writes.{applied}
 use Rattle.words.proofs.Laws.{length-chunk, same-eq}
 use Rattle.words.proofs.Tests.{by-test}
+use Rattle.words.proofs.Bytewise.{bytes-applied}
 use Rattle.state.specs.State.{State, Picture, Exact}
 use Rattle.format.specs.Limits.{area}
 use Rattle.format.specs.declared.Size.{Size}
@@ -25,6 +26,8 @@ use Rattle.read_full.specs.Full.{black, copied}
 use Rattle.read_brun.specs.Brun.{brun}
 use Rattle.read_ss2.specs.Ss2.{ss2}
 use Rattle.read_frame.specs.Frame.{ChunkWalk, onPicture, onPalette, subChunk, frame}
+use Rattle.read_frame.specs.Reading.{played}
+use Rattle.read_frame.proofs.Sound.{frame-sound, played-exact}
 use Rattle.house_colour.specs.Colours.{colourBody}
 use Rattle.house_colour.proofs.ReadsBack.{colour-reads-back, colour-short}
 use Rattle.house_ss2.specs.Delta.{deltaBody}
@@ -173,3 +176,11 @@ module _ {z : Size} {s t : State} (zs : ByteState z s) (zt : ByteState z t) wher
   house-reads-back =
       framed-plays z (houseChunks z s t) (s .picture) (s .palette) (t .picture) (t .palette) subs-small
       (frame-gives z (s .picture) (t .picture) (zs .exact .picture) (zt .exact .picture) (zt .bytes) (s .palette) (t .palette) (zs .exact .colours) (zt .exact .colours))
+
+-- a frame of bytes leaves a state of bytes
+pub played-bytes : (z : Size) (b : List ℕ) (s : State) → Bytes b → ByteState z s → ByteState z (played (frame z b) s)
+played-bytes z b s i x =
+    record {
+      exact = played-exact z b s (x .exact);
+      bytes = bytes-applied (frame z b .pixels) (s .picture) (frame-sound z (x .exact .picture .size .some-wide) b .of-bytes i .0) (x .bytes);
+    }

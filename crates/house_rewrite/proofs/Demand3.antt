@@ -13,8 +13,7 @@ use lib.Seq.{take-at}
 use borrow.Author.Tests.{le-leb, ne-eqb}
 use Rattle.words.specs.Words.{require_else_then_, u32At, chunk, same, Bytes}
 use Rattle.words.specs.Writes.{Write, put, applied}
-use Rattle.words.proofs.Laws.{Inside, length-applied, put-front, same-eq, length-chunk, bytes-take}
-use Rattle.words.proofs.Bytewise.{bytes-applied}
+use Rattle.words.proofs.Laws.{put-front, same-eq, length-chunk, bytes-take}
 use Rattle.words.proofs.Tests.{by-test}
 use Rattle.format.specs.Format.{FLI-COLOR256, FLI-BLACK, FLI-BRUN, FLI-COPY}
 use Rattle.format.specs.Limits.{area, sizeOk}
@@ -34,12 +33,12 @@ use Rattle.walk.specs.declared.Verdict.the-variants.{Ends}
 use Rattle.read_frame.specs.Frame.{ChunkWalk, FrameWalk, subChunk, frame}
 use Rattle.read_frame.specs.Reading.{played, readBy, readFrame}
 use Rattle.read_frame.proofs.Laws.{read-by}
-use Rattle.read_frame.proofs.Sound.{frame-sound}
+use Rattle.read_frame.proofs.Sound.{played-exact}
 use Rattle.house_frame.specs.House.{colourChunk, pictureChunk, houseChunks, framed, houseFrame, frameMost}
 use Rattle.house_frame.proofs.Laws.{picture-short}
 use Rattle.house_back.specs.Plays.{Plays}
 use Rattle.house_back.proofs.Frames.{framed-field}
-use Rattle.house_back.proofs.ReadsBack.{ByteState, Good, good-picture, black-walk, brun-walk, copy-walk, house-small, subs-small, house-reads-back}
+use Rattle.house_back.proofs.ReadsBack.{ByteState, played-bytes, Good, good-picture, black-walk, brun-walk, copy-walk, house-small, subs-small, house-reads-back}
 use Rattle.house_rewrite.proofs.Subs.{same-first, Described, none, more, framed-described, Single, frame-single}
 use Rattle.house_rewrite.specs.Rewriting.{rewrote, rewriteFrame}
 use Rattle.house_rewrite.specs.Demand3 as words
@@ -47,26 +46,6 @@ use Rattle.house_rewrite.specs.Demand3.{RoomEnough, bytesWritten, Sub, s
 
 refused-not-done : {C : Type 0} {n place : ℕ} {v : List ℕ} → refused n place ≡ done v → C
 refused-not-done e = let z : _≡_ {A = ℕ} 0 1 = cc in absurd (omega arith)
-
--- what a frame makes of a state
-
-kept : (ws : List Write) (d : List ℕ) (n : ℕ) → Inside n ws → length d ≡ n → length (applied ws d) ≡ n
-kept ws d n i e = length-applied ws d (subst (λ (m : ℕ). Inside m ws) (sym e) i) ∙ e
-
-played-exact : (z : Size) (b : List ℕ) (s : State) → Exact z s → Exact z (played (frame z b) s)
-played-exact z b s x =
-    let f = frame-sound z (x .picture .size .some-wide) b in
-    record {
-      picture = record { size = x .picture .size; pixels = kept (frame z b .pixels) (s .picture) (area z) (f .in-picture) (x .picture .pixels) };
-      colours = kept (frame z b .colours) (s .palette) 768 (f .in-palette) (x .colours);
-    }
-
-played-bytes : (z : Size) (b : List ℕ) (s : State) → Bytes b → ByteState z s → ByteState z (played (frame z b) s)
-played-bytes z b s i x =
-    record {
-      exact = played-exact z b s (x .exact);
-      bytes = bytes-applied (frame z b .pixels) (s .picture) (frame-sound z (x .exact .picture .size .some-wide) b .of-bytes i .0) (x .bytes);
-    }
 
 -- what an accepted frame tells
 

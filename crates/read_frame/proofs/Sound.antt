@@ -1,17 +1,19 @@
 -- What every frame's walk has: its writes lie within the picture and the palette, and of a frame of bytes they are of bytes. It follows
 -- from what each kind's walk has.
+use mathlib.Core.Path.{_≡_, sym, _∙_, subst}
 use mathlib.Core.List.{List, []}
 use Prim.Native.Nat.{ℕ, _+_, _-_, _≤_}
 use lib.Dec.{eqb}
-use lib.ListN.{take, drop}
+use lib.ListN.{length, take, drop}
 use Rattle.words.specs.Words.{Bytes, part}
-use Rattle.words.specs.Writes.{Write}
-use Rattle.words.proofs.Laws.{Inside, inside-append, bytes-take, bytes-drop}
+use Rattle.words.specs.Writes.{Write, applied}
+use Rattle.words.proofs.Laws.{Inside, inside-append, length-applied, bytes-take, bytes-drop}
 use Rattle.words.proofs.Bytewise.{Bytewise, bytewise-append}
 use Rattle.words.proofs.Tests.{cond-holds}
 use Rattle.format.specs.Format.{FLI-COLOR256, FLI-SS2, FLI-COLOR, FLI-LC, FLI-BLACK, FLI-BRUN, FLI-COPY}
 use Rattle.format.specs.Limits.{area}
 use Rattle.format.specs.declared.Size.{Size}
+use Rattle.state.specs.State.{State, Exact}
 use Rattle.walk.specs.Walk.{Walk}
 use Rattle.walk.proofs.Sound.{Sound}
 use Rattle.chunks.specs.Headers.{frameHeader}
@@ -24,6 +26,7 @@ use Rattle.read_brun.proofs.Laws.{brun-sound}
 use Rattle.read_lc.proofs.Laws.{lc-sound}
 use Rattle.read_ss2.proofs.Laws.{ss2-sound}
 use Rattle.read_frame.specs.Frame.{ChunkWalk, FrameWalk, onPicture, onPalette, subChunk, subChunks, afterFrameHeader, frame}
+use Rattle.read_frame.specs.Reading.{played}
 use Rattle.read_frame.proofs.Laws.{chunks-by}
 
 -- of writes to a picture and to a palette that the bytes b ask for
@@ -81,3 +84,16 @@ module _ (z : Size) (wide : 1 ≤ z .width) where
       go (whole.Frame count size) =
           let s = chunks-sound (take size b) count 16 in
           record { in-picture = s .in-picture; in-palette = s .in-palette; of-bytes = λ i. s .of-bytes (bytes-take size b i) }
+
+-- what a frame makes of a state
+
+kept : (ws : List Write) (d : List ℕ) (n : ℕ) → Inside n ws → length d ≡ n → length (applied ws d) ≡ n
+kept ws d n i e = length-applied ws d (subst (λ (m : ℕ). Inside m ws) (sym e) i) ∙ e
+
+pub played-exact : (z : Size) (b : List ℕ) (s : State) → Exact z s → Exact z (played (frame z b) s)
+played-exact z b s x =
+    let f = frame-sound z (x .picture .size .some-wide) b in
+    record {
+      picture = record { size = x .picture .size; pixels = kept (frame z b .pixels) (s .picture) (area z) (f .in-picture) (x .picture .pixels) };
+      colours = kept (frame z b .colours) (s .palette) 768 (f .in-palette) (x .colours);
+    }

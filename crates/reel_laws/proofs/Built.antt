@@ -9,7 +9,7 @@ use native.Mathlib.Omega.{arith}
 use native.Mathlib.Numerals.{sub-one}
 use borrow.Author.Tests.{le-leb}
 use lib.ListN.{length, take, drop, length-append}
-use lib.Seq.{take-at, drop-at}
+use lib.Seq.{take-at, take-all, drop-at}
 use Rattle.words.specs.Words.{u32At}
 use Rattle.words.specs.Writes.{put}
 use Rattle.words.proofs.Laws.{same-refl}
@@ -46,10 +46,10 @@ use Rattle.reel_laws.proofs.Laps.{last-append}
 use Rattle.reel_laws.proofs.Frames.{Leads, Shows, sizeOfFirst, shows-add, each-first, each-last, house-leads, exact-start, byte-start, first-size, shows-reads, Whole, all-plays, Two, two-there}
 use Rattle.reel_laws.proofs.Making.{Holds, put-after, making-holds}
 
--- A file: a closed header, frames that lead to the states asked for and back to the first, and whatever follows.
+-- A file: a closed header, and frames that lead to the states asked for and back to the first.
 
 module _ (z : Size) (speed : ℕ) (ok : sizeOk (z .width) (z .height) ≡ true) (first : State) (rest : List State) (few : suc (length rest) ≤ maxFrames)
-    (fs more : List ℕ) (shows : Shows z (blank (area z)) (first ∷ (rest ++ (first ∷ []))) fs) (second : ℕ) (word : HEADER-BYTES + length fs < 4294967296) where
+    (fs : List ℕ) (shows : Shows z (blank (area z)) (first ∷ (rest ++ (first ∷ []))) fs) (second : ℕ) (word : HEADER-BYTES + length fs < 4294967296) where
   abbrev size : ℕ
   size = HEADER-BYTES + length fs
 
@@ -57,32 +57,30 @@ module _ (z : Size) (speed : ℕ) (ok : sizeOk (z .width) (z .height) ≡ true) 
   top = fileHeader (HEADER-BYTES + length fs) (suc (length rest)) (z .width) (z .height) FINISHED speed HEADER-BYTES second
 
   abbrev file : List ℕ
-  file = fileHeader (HEADER-BYTES + length fs) (suc (length rest)) (z .width) (z .height) FINISHED speed HEADER-BYTES second ++ (fs ++ more)
+  file = fileHeader (HEADER-BYTES + length fs) (suc (length rest)) (z .width) (z .height) FINISHED speed HEADER-BYTES second ++ fs
 
   top-length : length top ≡ HEADER-BYTES
   top-length = header-length size (suc (length rest)) (z .width) (z .height) speed HEADER-BYTES second
 
+  pub file-length : length file ≡ size
+  file-length = length-append top fs ∙ ap (λ (k : ℕ). k + length fs) top-length
+
   pub file-read : headOf file ≡ head.Reel (z .width) (z .height) (suc (length rest)) size (u32At file SPEED-AT)
-  file-read =
-      header-read size (suc (length rest)) (z .width) (z .height) speed HEADER-BYTES second (fs ++ more) ok (omega arith) few word (omega arith)
-      (omega (arith, top-length, length-append top (fs ++ more), length-append fs more))
+  file-read = header-read size (suc (length rest)) (z .width) (z .height) speed HEADER-BYTES second fs ok (omega arith) few word (omega arith) (omega (arith, file-length))
 
-  pub file-cut : take size file ≡ top ++ fs
-  file-cut = ap (take size) (sym (append-assoc top fs more)) ∙ take-at (top ++ fs) more size (length-append top fs ∙ ap (λ (k : ℕ). k + length fs) top-length)
+  pub frames-there : drop HEADER-BYTES file ≡ fs ++ []
+  frames-there = drop-at top fs HEADER-BYTES top-length ∙ sym (append-nil fs)
 
-  frames-there : drop HEADER-BYTES (take size file) ≡ fs ++ []
-  frames-there = ap (drop HEADER-BYTES) file-cut ∙ drop-at top fs HEADER-BYTES top-length ∙ sym (append-nil fs)
+  pub file-shows : Reads z file HEADER-BYTES (blank (area z)) (first ∷ (rest ++ (first ∷ [])))
+  file-shows = shows-reads z ok file shows (exact-start z ok) [] HEADER-BYTES frames-there
 
-  pub file-shows : Reads z (take size file) HEADER-BYTES (blank (area z)) (first ∷ (rest ++ (first ∷ [])))
-  file-shows = shows-reads z ok (take size file) shows (exact-start z ok) [] HEADER-BYTES frames-there
-
-  plays : Whole z ok (take size file) Loose first (rest ++ (first ∷ [])) size
-  plays = all-plays z ok (take size file) Loose shows [] frames-there
+  plays : Whole z ok file Loose first (rest ++ (first ∷ [])) size
+  plays = all-plays z ok file Loose shows [] frames-there
 
   played : playAll Loose (suc (length rest)) z (take size file) ≡ shown (To (plays .last) size) first first
   played =
       let count : suc (length rest) ≡ length (rest ++ (first ∷ [])) = omega (arith, length-append rest (first ∷ [])) in
-      ap (λ (k : ℕ). playAll Loose k z (take size file)) count ∙ plays .is
+      ap₂ (λ (k : ℕ) (x : List ℕ). playAll Loose k z x) count (take-all size file (omega (arith, file-length))) ∙ plays .is
       ∙ ap (λ (s : State). shown (To (plays .last) size) s first) (last-append first rest first)
 
   pub file-accepted : (p q : State) → enough (area z) p ≡ true → enough (area z) q ≡ true → checkReel file p q .said ≡ done []
@@ -196,26 +194,30 @@ module _ (z : Size) (speed : ℕ) (b : List ℕ) (r : Reel) (first : State) (res
   abbrev closed-reel : Reel
   closed-reel = reelOf z (suc (length rest)) (HEADER-BYTES + length (i .frames ++ houseFrame z (lastOf first rest) first)) true
 
-  finished : fits end ring b ≡ true → Finished z speed first rest whole closed-reel
+  cut : take (HEADER-BYTES + length all-frames) whole ≡ top-is ++ all-frames
+  cut =
+      ap (take (HEADER-BYTES + length all-frames)) (sym (append-assoc top-is all-frames left))
+      ∙ take-at (top-is ++ all-frames) left (HEADER-BYTES + length all-frames) (length-append top-is all-frames ∙ ap (λ (k : ℕ). k + length all-frames) top-is-long)
+
+  finished : fits end ring b ≡ true → Finished z speed first rest (top-is ++ all-frames) closed-reel
   finished k =
       let room = fits-in end ring b k in
       let word : HEADER-BYTES + length all-frames < 4294967296 = omega (arith, room .1, size-is) in
       let shows = shows-add z (i .shows) ring-leads in
-      let cut = file-cut z speed ok first rest (i .few) all-frames left shows second-is word in
-      let two : Two z ok (take (HEADER-BYTES + length all-frames) whole) second-is =
-      two-there z ok (take (HEADER-BYTES + length all-frames) whole) (i .shows) ring-leads []
-      (ap (drop HEADER-BYTES) cut ∙ drop-at top-is all-frames HEADER-BYTES top-is-long ∙ sym (append-nil all-frames)) in
+      let two : Two z ok (top-is ++ all-frames) second-is =
+      two-there z ok (top-is ++ all-frames) (i .shows) ring-leads [] (frames-there z speed ok first rest (i .few) all-frames shows second-is word) in
       record {
+        long = file-length z speed ok first rest (i .few) all-frames shows second-is word;
         record-is = refl;
         second = second-is;
-        header = take-at top-is (all-frames ++ left) HEADER-BYTES top-is-long;
-        header-read = file-read z speed ok first rest (i .few) all-frames left shows second-is word;
-        speed-is = λ quick. header-speed (HEADER-BYTES + length all-frames) count (z .width) (z .height) speed HEADER-BYTES second-is (all-frames ++ left) quick;
+        header = take-at top-is all-frames HEADER-BYTES top-is-long;
+        header-read = file-read z speed ok first rest (i .few) all-frames shows second-is word;
+        speed-is = λ quick. header-speed (HEADER-BYTES + length all-frames) count (z .width) (z .height) speed HEADER-BYTES second-is all-frames quick;
         oframe1-is = two .frame-1;
         third = two .third;
         oframe2-is = two .frame-2;
-        shows = file-shows z speed ok first rest (i .few) all-frames left shows second-is word;
-        accepted = file-accepted z speed ok first rest (i .few) all-frames left shows second-is word;
+        shows = file-shows z speed ok first rest (i .few) all-frames shows second-is word;
+        accepted = file-accepted z speed ok first rest (i .few) all-frames shows second-is word;
       }
 
   abbrev closes : ReelOutcome
@@ -234,7 +236,7 @@ module _ (z : Size) (speed : ℕ) (b : List ℕ) (r : Reel) (first : State) (res
   module _ (p q : State) where
     -- what was closed is finished
     abbrev Fine : ReelOutcome → Type 0
-    Fine o = o .left .said ≡ done [] → Finished z speed first rest (o .left .memory .bytes) (o .reel)
+    Fine o = o .left .said ≡ done [] → Finished z speed first rest (take (o .reel .end) (o .left .memory .bytes)) (o .reel)
 
     refused-fine : (e : Refusal) (place : ℕ) (x : Reel) (m : Memory) → Fine (keeps x e place m)
     refused-fine e place x m d = let z : _≡_ {A = ℕ} 0 1 = cc in absurd (omega arith)
@@ -251,7 +253,7 @@ module _ (z : Size) (speed : ℕ) (b : List ℕ) (r : Reel) (first : State) (res
     ring-fine : Fine (with-pairs (ringWritten open-reel ring b))
     ring-fine =
         by-test (λ t. Fine (with-pairs (ringWritten open-reel ring b))) (fits end ring b)
-        (λ k. subst (λ (o : ReelOutcome). Fine (with-pairs o)) (sym (ring-fits k)) (λ d. finished k))
+        (λ k. subst (λ (o : ReelOutcome). Fine (with-pairs o)) (sym (ring-fits k)) (λ d. subst (λ (x : List ℕ). Finished z speed first rest x closed-reel) (sym cut) (finished k)))
         (λ k. subst (λ (o : ReelOutcome). Fine (with-pairs o)) (sym (ring-out k)) (refused-fine NoRoom 0 open-reel (with-pairs (keeps open-reel NoRoom 0 (lentBytes b)) .left .memory)))
 
     close-fine : Fine (closeReel open-reel b p q)
@@ -261,7 +263,7 @@ module _ (z : Size) (speed : ℕ) (b : List ℕ) (r : Reel) (first : State) (res
         (λ f. subst Fine (sym (close-is e f)) ring-fine) (λ f. subst Fine (sym (close-second-short open-reel b p q taken ok e f)) (refused-fine ShortSlice 0 open-reel (lentBytesPairs b p q))))
         (λ e. subst Fine (sym (close-short open-reel b p q taken ok e)) (refused-fine ShortSlice 0 open-reel (lentBytesPairs b p q)))
 
-    pub close-finishes : closeReel r b p q .left .said ≡ done [] → Finished z speed first rest (closeReel r b p q .left .memory .bytes) (closeReel r b p q .reel)
+    pub close-finishes : closeReel r b p q .left .said ≡ done [] → Finished z speed first rest (take (closeReel r b p q .reel .end) (closeReel r b p q .left .memory .bytes)) (closeReel r b p q .reel)
     close-finishes = subst (λ (x : Reel). Fine (closeReel x b p q)) (sym (i .is)) close-fine
 
     -- it is done where both pairs hold a state and there is room for a frame
@@ -278,7 +280,7 @@ module _ (z : Size) (speed : ℕ) (b : List ℕ) (r : Reel) (first : State) (res
 -- The builder's promise: an open, adds each handed what the last accepted one asked for, and a close.
 
 module _ (z : Size) (speed : ℕ) {b : List ℕ} {r : Reel} {first : State} {rest : List State} (m : Making z speed b r (first ∷ rest)) (p q : State) where
-  pub built-shows : closeReel r b p q .left .said ≡ done [] → Finished z speed first rest (closeReel r b p q .left .memory .bytes) (closeReel r b p q .reel)
+  pub built-shows : closeReel r b p q .left .said ≡ done [] → Finished z speed first rest (take (closeReel r b p q .reel .end) (closeReel r b p q .left .memory .bytes)) (closeReel r b p q .reel)
   built-shows = close-finishes z speed b r first rest (making-holds z speed m) p q
 
   pub close-can-be-done : enough (area z) p ≡ true → enough (area z) q ≡ true → r .end + frameMost ≤ length b → r .end + frameMost ≤ mostBytes

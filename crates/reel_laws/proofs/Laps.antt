@@ -42,7 +42,7 @@ use Rattle.state.specs.State.{State, state, blank, enough, refilled, Exact}
 use Rattle.state.specs.Outcome.{Outcome, lentPair, lentPairs, leaves, refuse}
 use Rattle.read_frame.specs.Reading.{played, readFrame}
 use Rattle.read_frame.proofs.Laws.{read-by}
-use Rattle.read_frame.proofs.Theorems.{pair-kept}
+use Rattle.read_frame.proofs.Sound.{played-exact}
 use Rattle.reel_check.specs.Check.{ringed, ringAnswer, checkedBy, afterHead, checkReel}
 
 -- lists of states
@@ -84,14 +84,6 @@ module _ (z : Size) (ok : sizeOk (z .width) (z .height) ≡ true) where
         whole-front ws x n e =
             ap₂ (λ (u v : List ℕ). applied ws u ++ v) (take-all n x (omega arith)) (drop-of-length-le x {i = n} (omega arith)) ∙ append-nil (applied ws x)
 
-    exact-played : Exact z (played (frame z f) s)
-    exact-played =
-        let k = pair-kept f z s in
-        record {
-          picture = record { size = i .picture .size; pixels = ap (λ (o : Outcome). length (o .memory .first .picture)) (sym reads-played) ∙ k .picture .long ∙ i .picture .pixels };
-          colours = ap (λ (o : Outcome). length (o .memory .first .palette)) (sym reads-played) ∙ k .palette .long ∙ i .colours;
-        }
-
   module _ (b : List ℕ) where
     -- what an accepted frame of a reel is
     pub record One (at : ℕ) (s : State) (from end : ℕ) (t : State) : Type 0 where
@@ -116,7 +108,7 @@ module _ (z : Size) (ok : sizeOk (z .width) (z .height) ≡ true) where
               read =
                   ap₂ (λ (u v : ℕ). readFrame (part b u v) z s) (sym kx) (sym ky)
                   ∙ reads-played (part b x y) s i d ∙ ap (λ (u : State). leaves (told Done) (lentPair u)) kt;
-              exact = subst (Exact z) kt (exact-played (part b x y) s i d);
+              exact = subst (Exact z) kt (played-exact z (part b x y) s i);
             }
 
         by : (x : Next) → nextAt Loose b at ≡ x → met z b x s ≡ ran (To from end) t → One at s from end t

@@ -3,11 +3,12 @@
 use mathlib.Core.Path.{_≡_, refl, sym, ap, ap₂, _∙_, subst}
 use mathlib.Core.List.{List, [], _∷_, _++_, append-assoc}
 use mathlib.Core.Bool.{Bool, true, false, _&&_, cond}
-use Prim.Native.Nat.{ℕ, _+_, _≤_}
+use Prim.Native.Nat.{ℕ, _+_, _*_, _≤_}
 use native.Mathlib.Omega.{arith}
 use borrow.Author.Tests.{ltb-true}
 use lib.Dec.{leb, ltb}
-use lib.ListN.{length, drop, length-append}
+use lib.ListN.{length, take, drop, length-append, take-append-drop}
+use lib.Seq.{take-at}
 use Rattle.words.specs.Words.{Bytes}
 use Rattle.words.specs.Writes.{put}
 use Rattle.words.proofs.Laws.{put-front, bytes-take}
@@ -22,7 +23,8 @@ use Rattle.state.specs.State.{State, blank, front, enough}
 use Rattle.state.specs.Outcome.{Memory, lentBytes, leaves}
 use Rattle.state.proofs.Laws.{front-exact}
 use Rattle.chunks.specs.Spans.{HEADER-BYTES}
-use Rattle.house_frame.specs.House.{houseFrame}
+use Rattle.house_frame.specs.House.{houseFrame, frameMost}
+use Rattle.house_frame.proofs.Laws.{house-short}
 use Rattle.house_back.proofs.ReadsBack.{ByteState}
 use Rattle.reel_header.specs.Written.{opened}
 use Rattle.reel_header.proofs.Laws.{opened-length}
@@ -30,7 +32,7 @@ use Rattle.reel_build.specs.declared.Reel.{Reel}
 use Rattle.reel_build.specs.Record.{reelOf, noReel, ReelOutcome, builds, keeps}
 use Rattle.reel_build.specs.Building.{openReel, endOk, fits, addFrame}
 use Rattle.reel_laws.specs.Laps.{lastOf}
-use Rattle.reel_laws.specs.Building.{Making, opening, adding, refusing}
+use Rattle.reel_laws.specs.Building.{Making, opening, adding, moving, refusing}
 use Rattle.reel_laws.proofs.Kept.{add-refused}
 use Rattle.reel_laws.proofs.Frames.{Leads, Shows, none, shows-add, Each, no-state, each-add, each-last, house-leads, byte-start}
 
@@ -86,7 +88,7 @@ module _ (z : Size) (speed : ℕ) where
 
   add-holds : (b b′ : List ℕ) (r r′ : Reel) (asked : List State) (s t : State) → Bytes (t .picture) → Holds b r asked
       → front (area z) s ≡ lastOf (blank (area z)) asked → addFrame r b s t ≡ builds r′ (leaves (done []) (lentBytes b′))
-      → Holds b′ r′ (asked ++ (front (area z) t ∷ []))
+      → Holds b′ r′ (asked ++ (front (area z) t ∷ [])) × (r′ .end ≤ r .end + frameMost)
   unfolding addFrame
   add-holds b b′ r r′ asked s t by i from e =
       let n = area z in
@@ -107,22 +109,59 @@ module _ (z : Size) (speed : ℕ) where
       let more = length-append asked (u ∷ []) in
       let sized : ByteState z u = record { exact = front-exact z t (i .size) n refl (both-true (enough n s) (enough n t) (e₃ .0) .1); bytes = bytes-take n (t .picture) by } in
       let before = each-last z (i .each-sized) (byte-start z (i .size)) in
+      let now-is : r′ ≡ reelOf z (k + 1) (end + length f) false = sym (ap (λ (o : ReelOutcome). o .reel) (e₅ .1)) in
+      let short = house-short (front-exact z s (i .size) n refl (both-true (enough n s) (enough n t) (e₃ .0) .0)) (sized .exact) in (
+        record {
+          size = i .size;
+          frames = fs ++ f;
+          shows = shows-add z (i .shows) (subst (λ (x : State). Leads z (houseFrame z x u) (lastOf (blank n) asked) u) (sym from) (house-leads z before sized));
+          is =
+              now-is
+              ∙ ap₂ (λ (x y : ℕ). reelOf z x y false) (sym more) (omega (arith, length-append fs f));
+          rest = drop (length f) (i .rest);
+          bytes = sym (ap (λ (o : ReelOutcome). o .left .memory .bytes) (e₅ .1)) ∙ put-after i f;
+          each-sized = each-add z (i .each-sized) sized;
+          few = omega (arith, more, ltb-true k maxFrames (e₁ .0));
+        },
+        omega (arith, ap (λ (x : Reel). x .end) now-is, ap (λ (x : Reel). x .end) (i .is), short),
+      )
+
+  -- the bytes lent anew
+  moved-holds : (b b′ : List ℕ) (r : Reel) (asked : List State) → take (r .end) b′ ≡ take (r .end) b → Holds b r asked → Holds b′ r asked
+  moved-holds b b′ r asked e i =
+      let fs = i .frames in
+      let end = HEADER-BYTES + length fs in
+      let at : r .end ≡ end = ap (λ (x : Reel). x .end) (i .is) in
+      let long : length (top ++ fs) ≡ end = length-append top fs ∙ ap (λ (x : ℕ). x + length fs) (opened-length (z .width) (z .height) speed) in
+      let own : take end b ≡ top ++ fs = ap (take end) (i .bytes ∙ sym (append-assoc top fs (i .rest))) ∙ take-at (top ++ fs) (i .rest) end long in
+      let same : take end b′ ≡ top ++ fs = ap (λ (n : ℕ). take n b′) (sym at) ∙ e ∙ ap (λ (n : ℕ). take n b) at ∙ own in
       record {
         size = i .size;
-        frames = fs ++ f;
-        shows = shows-add z (i .shows) (subst (λ (x : State). Leads z (houseFrame z x u) (lastOf (blank n) asked) u) (sym from) (house-leads z before sized));
-        is =
-            sym (ap (λ (o : ReelOutcome). o .reel) (e₅ .1))
-            ∙ ap₂ (λ (x y : ℕ). reelOf z x y false) (sym more) (omega (arith, length-append fs f));
-        rest = drop (length f) (i .rest);
-        bytes = sym (ap (λ (o : ReelOutcome). o .left .memory .bytes) (e₅ .1)) ∙ put-after i f;
-        each-sized = each-add z (i .each-sized) sized;
-        few = omega (arith, more, ltb-true k maxFrames (e₁ .0));
+        frames = fs;
+        shows = i .shows;
+        is = i .is;
+        rest = drop end b′;
+        bytes = sym (take-append-drop end b′) ∙ ap (λ (x : List ℕ). x ++ drop end b′) same ∙ append-assoc top fs (drop end b′);
+        each-sized = i .each-sized;
+        few = i .few;
       }
 
   pub making-holds : {b : List ℕ} {r : Reel} {asked : List State} → Making z speed b r asked → Holds b r asked
   making-holds (opening b {b′} {r} e) = open-holds b b′ r e
-  making-holds (adding {b} {b′} {r} {r′} {asked} m s t by from e) = add-holds b b′ r r′ asked s t by (making-holds m) from e
+  making-holds (adding {b} {b′} {r} {r′} {asked} m s t by from e) = add-holds b b′ r r′ asked s t by (making-holds m) from e .0
+  making-holds (moving {b} {r} {asked} m b′ e) = moved-holds b b′ r asked e (making-holds m)
   making-holds (refusing {b} {r} {asked} m s t n place e) =
       let k = add-refused r b s t n place e in
       subst (λ (x : List ℕ). Holds x (addFrame r b s t .reel) asked) (sym (k .0)) (subst (λ (x : Reel). Holds b x asked) (sym (k .1)) (making-holds m))
+
+  -- how far the record's end can be
+  pub making-short : {b : List ℕ} {r : Reel} {asked : List State} → Making z speed b r asked → r .end ≤ HEADER-BYTES + length asked * frameMost
+  making-short (opening b {b′} {r} e) = let i = open-holds b b′ r e in omega (arith, ap (λ (x : Reel). x .end) (i .is), nothing-long (i .shows))
+    where
+      nothing-long : {fs : List ℕ} → Shows z (blank (area z)) [] fs → length fs ≡ 0
+      nothing-long none = refl
+  making-short (adding {b} {b′} {r} {r′} {asked} m s t by from e) =
+      let k = add-holds b b′ r r′ asked s t by (making-holds m) from e in
+      omega (arith, making-short m, k .1, length-append asked (front (area z) t ∷ []))
+  making-short (moving {b} {r} {asked} m b′ e) = making-short m
+  making-short (refusing {b} {r} {asked} m s t n place e) = omega (arith, making-short m, ap (λ (x : Reel). x .end) (add-refused r b s t n place e .1))
