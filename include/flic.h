@@ -14,7 +14,7 @@ extern "C" {
 #endif
 
 /* number 0: done. Otherwise a refusal's number and its place, an offset into the bytes handed in;
- * a refusal leaves all lent memory as it was. */
+ * a refusal leaves all lent memory as it was, but for the working pairs of flic_check_reel (see there). */
 typedef struct {
     uint32_t number;
     uint64_t place;
@@ -57,8 +57,9 @@ flic_written flic_rewrite_frame(const uint8_t *bytes, size_t bytes_len,
                                 uint8_t *out, size_t out_len);
 
 /* A whole reel. A pair is a picture and a palette; the two working pairs of a check or a close are lent for it to
- * play on, and their contents afterwards are fixed: once the checks up to refusal 1 have passed, done or refused, the
- * first holds the state after the last accepted frame and the second that after frame 1, either blank (all 0) for none.
+ * play on, and their contents afterwards are fixed. Refused 18, 2 or 1, or for the file header: as they were. Else,
+ * done or refused, the first holds the state after the last accepted frame and the second that after frame 1, either
+ * blank (all 0) for none; a longer slice keeps its excess.
  *
  * Checks the file header, plays every frame and the ring, and compares: refused 16, with the ring's offset as its
  * place, if the ring doesn't lead back to frame 1's picture and palette. In the first pair the ring counts too.
@@ -77,7 +78,7 @@ typedef struct {
 } flic_reel;
 
 /* number 0: done, with the reel as it is now. A refusal has the reel as it was handed in (an open: all 0), and leaves
- * the reel's bytes as they were. */
+ * the reel's bytes as they were; a close may have set its working pairs (see flic_check_reel). */
 typedef struct {
     uint32_t number;
     uint64_t place;
@@ -85,7 +86,22 @@ typedef struct {
 } flic_reel_answer;
 
 /* Opens a reel at the front of the lent bytes: writes the file header, 128 bytes. speed: milliseconds a frame shows.
- * A reel of n frames never needs more than 128 + (n + 1) * FLIC_FRAME_MOST bytes. */
+ * A reel of n frames never needs more than 128 + (n + 1) * FLIC_FRAME_MOST bytes.
+ *
+ * A reel of n pictures, with buffers shown_picture and shown_palette for what shows, all 0 at first:
+ *
+ *     flic_reel_answer r = flic_open_reel(width, height, 200, file, file_len);
+ *     for (int i = 0; r.number == 0 && i < n; i++) {
+ *         r = flic_add_frame(r.reel, file, file_len, shown_picture, size, shown_palette, 768,
+ *                            pictures[i], size, palettes[i], 768);
+ *         memcpy(shown_picture, pictures[i], size);
+ *         memcpy(shown_palette, palettes[i], 768);
+ *     }
+ *     if (r.number == 0)
+ *         r = flic_close_reel(r.reel, file, file_len, work1, size, colours1, 768, work2, size, colours2, 768);
+ *     if (r.number == 0) fwrite(file, 1, r.reel.end, out);
+ *
+ * The bytes may be moved or lent anew with more room between calls, as long as the first end of them stay. */
 flic_reel_answer flic_open_reel(uint64_t width, uint64_t height, uint32_t speed,
                                 uint8_t *bytes, size_t bytes_len);
 

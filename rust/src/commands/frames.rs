@@ -65,7 +65,10 @@ fn make_empty(directory: &Path) -> Outcome {
     match entries.next() {
         Some(Ok(entry)) => {
             let (directory, held) = (directory.display(), entry.file_name());
-            wrong(format!("{directory}: isn't empty, it holds {}: give a new or an empty directory", held.display()))
+            wrong(format!(
+                "{directory}: isn't empty, it holds {}: give a new or an empty directory",
+                Path::new(&held).display()
+            ))
         }
         Some(Err(error)) => wrong(format!("{}: can't be read: {error}{}", directory.display(), files::advice(&error))),
         None => Ok(()),

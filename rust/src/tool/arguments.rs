@@ -79,7 +79,11 @@ impl Arguments {
         let Some(value) = self.value(name) else { return Ok(None) };
         match value.to_str().and_then(|text| text.parse().ok()) {
             Some(number) if number >= least => Ok(Some(number)),
-            _ => misused(format!("{name} takes a whole number from {least} to {}, not {}", u32::MAX, value.display())),
+            _ => misused(format!(
+                "{name} takes a whole number from {least} to {}, not {}",
+                u32::MAX,
+                Path::new(value).display()
+            )),
         }
     }
 

@@ -72,7 +72,7 @@ impl Lender for GuardPages {
             let mut rng = Rng::new(seed);
             let loan = |(stretch, slice): (_, &&[u8])| {
                 let drawn = rng.draw();
-                let either = if drawn.is_multiple_of(2) { Side::Before } else { Side::After };
+                let either = if drawn % 2 == 0 { Side::Before } else { Side::After };
                 let side = self.0.unwrap_or(either);
                 let mut loan = Loan { stretch, side, length: slice.len(), watched: (drawn >> 8) as u8 };
                 loan.lay(slice);

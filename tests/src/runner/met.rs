@@ -33,7 +33,7 @@ impl Tally {
     fn count(&mut self, number: u32) {
         self.calls += 1;
         *self.numbers.entry(number).or_default() += 1;
-        if self.calls.is_multiple_of(PROGRESS) {
+        if self.calls % PROGRESS == 0 {
             println!("{}: {} {} so far", self.row.name, self.calls, self.row.unit);
         }
     }

@@ -133,7 +133,7 @@ fn noise_with_few_changes(width: usize, height: usize) -> Vec<u8> {
 
 /// Strokes on a plain ground, as letters have them.
 fn text(width: usize, height: usize) -> Vec<u8> {
-    let stroke = |x: usize, y: usize| u8::from(y % 12 < 8 && (x % 7 == 1 || (y.is_multiple_of(4) && x % 7 < 5)));
+    let stroke = |x: usize, y: usize| u8::from(y % 12 < 8 && (x % 7 == 1 || (y % 4 == 0 && x % 7 < 5)));
     (0..width * height).map(|at| stroke(at % width, at / width)).collect()
 }
 
