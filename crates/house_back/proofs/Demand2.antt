@@ -27,7 +27,8 @@ use Rattle.house_frame.specs.House.{houseFrame, frameMost}
 use Rattle.house_frame.specs.Writing.{writeFrame}
 use Rattle.house_frame.proofs.Laws.{house-short}
 use Rattle.house_back.specs.Demand2.{Demand2}
-use Rattle.house_back.proofs.ReadsBack.{ByteState, house-reads-back}
+use Rattle.house_back.specs.Plays.{ByteState}
+use Rattle.house_back.proofs.ReadsBack.{house-reads-back}
 
 -- a call that is done has passed a test
 passed : (t : Bool) (x : Outcome) (e : Refusal) (out : List ℕ) (n : ℕ) → cond t x (refuse e 0 (lentBytes out)) .said ≡ done (n ∷ [])

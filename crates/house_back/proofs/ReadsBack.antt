@@ -37,7 +37,7 @@ use Rattle.house_full.proofs.Laws.{sized-small}
 use Rattle.house_full.proofs.ReadsBack.{brun-reads-back, copy-reads-back, black-reads-back}
 use Rattle.house_frame.specs.House.{colourChunk, deltaChunk, pictureChunk, changed, houseChunks, houseFrame, pictureMost, frameMost}
 use Rattle.house_frame.proofs.Laws.{house-short}
-use Rattle.house_back.specs.Plays.{Acts, Plays}
+use Rattle.house_back.specs.Plays.{Acts, Plays, ByteState}
 use Rattle.house_back.proofs.Frames.{Subs, none, sub, length-framed, framed-plays}
 
 -- a walk on the picture or on the palette
@@ -155,11 +155,6 @@ module _ (z : Size) (p q : List ℕ) (zp : Picture (z .width) (z .height) p) (zq
         (λ e. sub FLI-COLOR256 (colourBody u v) p v (omega (arith, colour-short u v lu lv))
         (acts-as (colour-walk z (colourBody u v)) (on-palette (colour Of256 (colourBody u v)) (length (colourBody u v)) u v p (colour-reads-back u v lu lv)))
         (picture-gives v))
-
--- a state of just that size whose pixels are bytes
-pub record ByteState (z : Size) (s : State) : Type 0 where
-  pub exact : Exact z s
-  pub bytes : Bytes (s .picture)
 
 module _ {z : Size} {s t : State} (zs : ByteState z s) (zt : ByteState z t) where
   -- the house frame lies well within 32 bits

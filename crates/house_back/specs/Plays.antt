@@ -1,8 +1,11 @@
--- What sub-chunks and frames do to a picture and a palette.
+-- What sub-chunks and frames do to a picture and a palette, and a state of bytes.
 use mathlib.Core.Path.{_≡_}
 use mathlib.Core.List.{List}
 use Prim.Native.Nat.{ℕ}
+use Rattle.words.specs.Words.{Bytes}
 use Rattle.words.specs.Writes.{applied}
+use Rattle.format.specs.declared.Size.{Size}
+use Rattle.state.specs.State.{State, Exact}
 use Rattle.walk.specs.declared.Verdict.the-variants.{Ends}
 use Rattle.answer.specs.declared.Answer.the-variants.{Done}
 use Rattle.read_frame.specs.Frame.{ChunkWalk, FrameWalk}
@@ -19,3 +22,8 @@ pub record Plays (f : FrameWalk) (p q p′ q′ : List ℕ) : Type 0 where
   pub done : f .answer ≡ Done
   pub picture : applied (f .pixels) p ≡ p′
   pub palette : applied (f .colours) q ≡ q′
+
+-- a state of just that size whose pixels are bytes
+pub record ByteState (z : Size) (s : State) : Type 0 where
+  pub exact : Exact z s
+  pub bytes : Bytes (s .picture)

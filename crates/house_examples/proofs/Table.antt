@@ -2,9 +2,13 @@
 use lib.Dec.{T}
 use mathlib.Core.List.{flatten, flatMap}
 use Rattle.words.specs.Words.{magnitude, u16At, chunk, same}
+use Rattle.format.specs.Format.{raised}
 use Rattle.state.specs.State.{blank}
 use Rattle.read_colour.specs.Colour as colour′
 use Rattle.read_packets.specs.Packets as packets′
+use Rattle.read_full.specs.Full.{black, copied}
+use Rattle.read_brun.specs.Brun as brun′
+use Rattle.read_lc.specs.Lc as lc′
 use Rattle.read_ss2.specs.Ss2 as ss2′
 use Rattle.read_frame.specs.Frame.{subChunk}
 use Rattle.house_least.specs.Least.{best, table, chosen, choose, better, via}
@@ -18,5 +22,5 @@ use Rattle.house_frame.specs.House.{colourChunk, deltaChunk, pictureChunk, hous
 use Rattle.house_examples.specs.Numbers.{holds, all, upFrom, stripes, numbers}
 
 pub numbers-hold : T (all numbers)
-unfolding all holds numbers upFrom stripes blank subChunk same chunk magnitude u16At colour′.colour colour′.packets colour′.packetAt colour′.packetOf colour′.countOf colour′.levelsOk colour′.level ss2′.ss2 ss2′.lines ss2′.lineAt ss2′.lastAt ss2′.wordOf ss2′.lineWalk packets′.packets houseBytes bytes house allowed down equal best table chosen choose better via brunRow brunBody allZero shorter fullChunk cells behind stretches house′.packetBytes house′.equals house′.repeats house′.upToRepeat house′.firstPacket house′.unitPackets house′.shortenings house′.gapPackets house′.stretchPackets house′.rowPackets line′.counted line′.lastChanges line′.line delta′.skipWord delta′.stretchLines delta′.changedRows delta′.lineCount delta′.deltaBody flatten flatMap colourChunk deltaChunk pictureChunk houseChunks framed houseFrame
+unfolding all holds numbers upFrom stripes blank subChunk same chunk magnitude u16At colour′.colour colour′.packets colour′.packetAt colour′.packetOf colour′.countOf colour′.levelsOk colour′.level ss2′.ss2 ss2′.lines ss2′.lineAt ss2′.lastAt ss2′.wordOf ss2′.lineWalk packets′.packets packets′.packetAt packets′.packetOf packets′.pixels packets′.dataBytes lc′.lc lc′.rows lc′.rowAt lc′.startAt black copied brun′.brun brun′.rows brun′.row brun′.packets brun′.packetAt brun′.packetOf brun′.dataBytes brun′.pixels raised houseBytes bytes house allowed down equal best table chosen choose better via brunRow brunBody allZero shorter fullChunk cells behind stretches house′.packetBytes house′.equals house′.repeats house′.upToRepeat house′.firstPacket house′.unitPackets house′.shortenings house′.gapPackets house′.stretchPackets house′.rowPackets line′.counted line′.lastChanges line′.line delta′.skipWord delta′.stretchLines delta′.changedRows delta′.lineCount delta′.deltaBody flatten flatMap colourChunk deltaChunk pictureChunk houseChunks framed houseFrame
 numbers-hold = tt

@@ -8,7 +8,7 @@ use Rattle.words.specs.Words.{same}
 use Rattle.words.specs.Writes.{Write}
 use Rattle.answer.specs.Answer.{number}
 use Rattle.state.specs.State.{State, blank}
-use Rattle.format.specs.Format.{FLI-COLOR256, FLI-SS2}
+use Rattle.format.specs.Format.{FLI-COLOR256, FLI-SS2, FLI-COLOR, FLI-LC, FLI-BLACK, FLI-BRUN, FLI-COPY}
 use Rattle.format.specs.Limits.{sizeOf}
 use Rattle.walk.specs.declared.Verdict.{Verdict}
 use Rattle.walk.specs.declared.Verdict.the-variants.{Ends, Fault}
@@ -17,9 +17,11 @@ use Rattle.house_rows.specs.Row.{houseBytes}
 use Rattle.house_ss2.specs.Delta.{deltaBody}
 use Rattle.house_frame.specs.House.{houseFrame}
 
--- what a body does: it is accepted and sets these bytes from that index on and nothing else, or it is refused with a number
+-- what a body does: it is accepted and sets these bytes of the picture, or of the palette, from that index on and nothing else, or it is refused with
+-- a number
 pub data Effect : Type 0 where
-  sets : ℕ → List ℕ → Effect
+  setsPixels : ℕ → List ℕ → Effect
+  setsColours : ℕ → List ℕ → Effect
   refusedWith : ℕ → Effect
 
 -- an item of the table
@@ -41,11 +43,18 @@ isOne [] at v = false
 isOne (w ∷ []) at v = eqb (w .at) at && same (w .bytes) v
 isOne (w ∷ (w′ ∷ ws)) at v = false
 
-abbrev pub does : List Write → Verdict → Effect → Bool
-does ws (Ends end) (sets at v) = isOne ws at v
-does ws (Ends end) (refusedWith n) = false
-does ws (Fault e) (sets at v) = false
-does ws (Fault e) (refusedWith n) = eqb (number e) n
+abbrev pub isNone : List Write → Bool
+isNone [] = true
+isNone (w ∷ ws) = false
+
+-- with these writes to the picture and to the palette
+abbrev pub does : List Write → List Write → Verdict → Effect → Bool
+does pixels colours (Ends end) (setsPixels at v) = isOne pixels at v && isNone colours
+does pixels colours (Ends end) (setsColours at v) = isNone pixels && isOne colours at v
+does pixels colours (Ends end) (refusedWith n) = false
+does pixels colours (Fault e) (setsPixels at v) = false
+does pixels colours (Fault e) (setsColours at v) = false
+does pixels colours (Fault e) (refusedWith n) = eqb (number e) n
 
 unfoldable pub holds : Number → Bool
 holds (row pixels bytes) = same (houseBytes pixels) bytes
@@ -54,7 +63,7 @@ holds (writes w h old new bytes) = same (houseFrame (sizeOf w h) old new) bytes
 holds (delta w h old new bytes) = same (deltaBody w h old new) bytes
 holds (reads w h kind body effect) =
     let c = subChunk (sizeOf w h) kind body in
-    does (c .pixels ++ c .colours) (c .verdict) effect
+    does (c .pixels) (c .colours) (c .verdict) effect
 
 unfoldable pub all : List Number → Bool
 all [] = true
@@ -95,10 +104,17 @@ numbers =
     ∷ writes 100 1 (shows (upFrom 0 100)) (shows (upFrom 0 10 ++ (0 ∷ 0 ∷ upFrom 12 88)))
     (0x1e ∷ 0x00 ∷ 0x00 ∷ 0x00 ∷ 0xfa ∷ 0xf1 ∷ 0x01 ∷ 0x00 ∷ replicate 8 0x00 ++ (0x0e ∷ 0x00 ∷ 0x00 ∷ 0x00 ∷ 0x07 ∷ 0x00 ∷ 0x01 ∷ 0x00 ∷ 0x01 ∷ 0x00 ∷ 0x0a ∷ 0x01 ∷ 0x00 ∷ 0x00 ∷ []))
     -- "width 5, kind 7 body 01 00 09 80 00 00 sets column 4 to 9, nothing else"
-    ∷ reads 5 1 FLI-SS2 (0x01 ∷ 0x00 ∷ 0x09 ∷ 0x80 ∷ 0x00 ∷ 0x00 ∷ []) (sets 4 (9 ∷ []))
+    ∷ reads 5 1 FLI-SS2 (0x01 ∷ 0x00 ∷ 0x09 ∷ 0x80 ∷ 0x00 ∷ 0x00 ∷ []) (setsPixels 4 (9 ∷ []))
     -- "skip 255 count 1 is accepted; skip 255 count 2 is 12"
-    ∷ reads 1 1 FLI-COLOR256 (0x01 ∷ 0x00 ∷ 0xff ∷ 0x01 ∷ 7 ∷ 8 ∷ 9 ∷ []) (sets 765 (7 ∷ 8 ∷ 9 ∷ []))
+    ∷ reads 1 1 FLI-COLOR256 (0x01 ∷ 0x00 ∷ 0xff ∷ 0x01 ∷ 7 ∷ 8 ∷ 9 ∷ []) (setsColours 765 (7 ∷ 8 ∷ 9 ∷ []))
     ∷ reads 1 1 FLI-COLOR256 (0x01 ∷ 0x00 ∷ 0xff ∷ 0x02 ∷ 7 ∷ 8 ∷ 9 ∷ 10 ∷ 11 ∷ 12 ∷ []) (refusedWith 12)
     -- "Row skip FF FF on height 1 is 10"
     ∷ reads 1 1 FLI-SS2 (0x01 ∷ 0x00 ∷ 0xff ∷ 0xff ∷ []) (refusedWith 10)
+    -- beside the paper's numbers, so that of each kind something is accepted: 11, 12, 13, 15 and 16; and a level over 63 is 13
+    ∷ reads 1 1 FLI-COLOR (0x01 ∷ 0x00 ∷ 0x00 ∷ 0x01 ∷ 63 ∷ 32 ∷ 1 ∷ []) (setsColours 0 (252 ∷ 128 ∷ 4 ∷ []))
+    ∷ reads 1 1 FLI-COLOR (0x01 ∷ 0x00 ∷ 0x00 ∷ 0x01 ∷ 64 ∷ 32 ∷ 1 ∷ []) (refusedWith 13)
+    ∷ reads 4 1 FLI-LC (0x00 ∷ 0x00 ∷ 0x01 ∷ 0x00 ∷ 0x01 ∷ 0x01 ∷ 0x00 ∷ 0x02 ∷ 5 ∷ 6 ∷ []) (setsPixels 1 (5 ∷ 6 ∷ []))
+    ∷ reads 2 1 FLI-BLACK [] (setsPixels 0 (0 ∷ 0 ∷ []))
+    ∷ reads 2 1 FLI-BRUN (0x01 ∷ 0x02 ∷ 7 ∷ []) (setsPixels 0 (7 ∷ 7 ∷ []))
+    ∷ reads 2 1 FLI-COPY (3 ∷ 4 ∷ []) (setsPixels 0 (3 ∷ 4 ∷ []))
     ∷ []

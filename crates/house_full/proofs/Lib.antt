@@ -2,3 +2,4 @@ pub mod Laws
 pub mod ReadsBack
 pub mod FullLeast
 pub mod Edges
+pub mod RowReader

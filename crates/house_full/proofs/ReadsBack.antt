@@ -57,7 +57,7 @@ module _ (b : List ℕ) where
       (shows-before (pixels b (at + 1) t) v px (shows-as (ap (λ (k : ℕ). packets b k 0 (at + 1 + dataBytes t)) n) after))
 
   -- what encodes a row is read as that row
-  encoded-shows : {bs s : List ℕ} → Encodes bs s → (at : ℕ) (more : List ℕ) (end : ℕ) → drop at b ≡ bs ++ more → end ≡ at + length bs
+  pub encoded-shows : {bs s : List ℕ} → Encodes bs s → (at : ℕ) (more : List ℕ) (end : ℕ) → drop at b ≡ bs ++ more → end ≡ at + length bs
       → Shows (packets b (length s) 0 at) end s
   encoded-shows none at more end e ee = shows-as (packets-none b 0 at (omega arith)) (record { ended = ap Ends (omega arith); shown = refl })
   encoded-shows (repeated {bs} {s} n v l h c) at more end e ee =

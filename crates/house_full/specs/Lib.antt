@@ -1,2 +1,3 @@
 pub mod Full
 pub mod Edges
+pub mod RowReader

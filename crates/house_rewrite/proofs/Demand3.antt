@@ -36,9 +36,9 @@ use Rattle.read_frame.proofs.Laws.{read-by}
 use Rattle.read_frame.proofs.Sound.{played-exact}
 use Rattle.house_frame.specs.House.{colourChunk, pictureChunk, houseChunks, framed, houseFrame, frameMost}
 use Rattle.house_frame.proofs.Laws.{picture-short}
-use Rattle.house_back.specs.Plays.{Plays}
+use Rattle.house_back.specs.Plays.{Plays, ByteState}
 use Rattle.house_back.proofs.Frames.{framed-field}
-use Rattle.house_back.proofs.ReadsBack.{ByteState, played-bytes, Good, good-picture, black-walk, brun-walk, copy-walk, house-small, subs-small, house-reads-back}
+use Rattle.house_back.proofs.ReadsBack.{played-bytes, Good, good-picture, black-walk, brun-walk, copy-walk, house-small, subs-small, house-reads-back}
 use Rattle.house_rewrite.proofs.Subs.{same-first, Described, none, more, framed-described, Single, frame-single}
 use Rattle.house_rewrite.specs.Rewriting.{rewrote, rewriteFrame}
 use Rattle.house_rewrite.specs.Demand3 as words

@@ -11,12 +11,9 @@ use lib.Seq.{getD-drop, getD-take}
 use Rattle.house_least.specs.Least.{sum, stop, go, Least, Preferred, end, next}
 use Rattle.house_least.proofs.Laws.{le-or-lt}
 use Rattle.house_rows.specs.Row.{RowPacket, repeat, copy, span, size, allowed, Before, house, bytes, houseBytes}
+use Rattle.house_rows.specs.RowRule.{Through, Apart}
 use Rattle.house_rows.proofs.Packets.{Repeats, repeat-of, copy-of, repeat-mem, copy-mem}
-use Rattle.house_rows.proofs.RowRule.{Through, bytes-size, way-encodes, house-way, house-least, house-ties}
-
--- no neighbours are equal
-abbrev pub Apart : List ℕ → Type 0
-Apart s = (i : ℕ) → i + 1 < length s → getD s i 0 ≡ getD s (i + 1) 0 → ⊥
+use Rattle.house_rows.proofs.RowRule.{bytes-size, way-encodes, house-way, house-least, house-ties}
 
 apart-drop : (n : ℕ) (s : List ℕ) → Apart s → Apart (drop n s)
 apart-drop n s a i h e =

@@ -25,7 +25,8 @@ use Rattle.state.specs.Outcome.{Memory, lentBytes, lentPairs, lentBytesPairs, l
 use Rattle.chunks.specs.declared.Layout.the-variants.{Loose, Packed}
 use Rattle.chunks.specs.Spans.{HEADER-BYTES}
 use Rattle.house_frame.specs.House.{houseFrame, frameMost}
-use Rattle.house_back.proofs.ReadsBack.{ByteState, house-small}
+use Rattle.house_back.specs.Plays.{ByteState}
+use Rattle.house_back.proofs.ReadsBack.{house-small}
 use Rattle.reel_header.specs.Head.{SPEED-AT, FINISHED, headOf}
 use Rattle.reel_header.specs.declared.Head.{Head}
 use Rattle.reel_header.specs.declared.Head.the-variants as head

@@ -26,7 +26,8 @@ use Rattle.read_frame.specs.Frame.{frame}
 use Rattle.read_frame.specs.Reading.{played}
 use Rattle.house_frame.specs.House.{houseChunks, houseFrame}
 use Rattle.house_back.proofs.Frames.{header-before}
-use Rattle.house_back.proofs.ReadsBack.{ByteState, subs-small, house-reads-back}
+use Rattle.house_back.specs.Plays.{ByteState}
+use Rattle.house_back.proofs.ReadsBack.{subs-small, house-reads-back}
 use Rattle.reel_play.specs.Play.{Progress, ran, oneFrame, frames, shown, playAll}
 use Rattle.reel_play.specs.declared.Ran.the-variants.{To}
 use Rattle.reel_play.proofs.Laws.{one-played, frames-none, frames-more, all-more}

@@ -25,7 +25,7 @@ use Rattle.state.proofs.Laws.{front-exact}
 use Rattle.chunks.specs.Spans.{HEADER-BYTES}
 use Rattle.house_frame.specs.House.{houseFrame, frameMost}
 use Rattle.house_frame.proofs.Laws.{house-short}
-use Rattle.house_back.proofs.ReadsBack.{ByteState}
+use Rattle.house_back.specs.Plays.{ByteState}
 use Rattle.reel_header.specs.Written.{opened}
 use Rattle.reel_header.proofs.Laws.{opened-length}
 use Rattle.reel_build.specs.declared.Reel.{Reel}

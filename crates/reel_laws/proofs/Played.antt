@@ -24,7 +24,8 @@ use Rattle.chunks.proofs.Spans.{top-packed, next-fault, next-there}
 use Rattle.chunks.proofs.Places.{frame-alone}
 use Rattle.read_frame.specs.Frame.{frame}
 use Rattle.read_frame.specs.Reading.{played}
-use Rattle.house_back.proofs.ReadsBack.{ByteState, played-bytes}
+use Rattle.house_back.specs.Plays.{ByteState}
+use Rattle.house_back.proofs.ReadsBack.{played-bytes}
 use Rattle.reel_play.specs.Play.{Progress, ran, oneFrame, frames}
 use Rattle.reel_play.specs.declared.Ran.{Ran}
 use Rattle.reel_play.specs.declared.Ran.the-variants.{Stopped, To}
