@@ -34,7 +34,6 @@ use Rattle.reel_build.specs.Building.{endOk}
 use Rattle.reel_build.proofs.Laws.{end-in}
 use Rattle.reel_close.specs.Closing.{ownPlaying, ringWritten, ringAfter, closeOk, closeReel}
 use Rattle.reel_close.proofs.Laws.{own-record, own-played, close-few}
-use Rattle.reel_laws.specs.Laps.{lastOf}
 use Rattle.reel_laws.specs.Building.{ClosedFile}
 use Rattle.reel_laws.proofs.Laps.{accepted-leads-back}
 use Rattle.reel_laws.proofs.Frames.{Shows, next, exact-start, byte-start}
@@ -49,19 +48,18 @@ passed false x r e m d = let z : _≡_ {A = ℕ} 0 1 = cc in absurd (omega arith
 
 -- frame 1 and the frames behind it, played back to back
 module _ (z : Size) (b : List ℕ) where
-  pub record All (more : ℕ) (next : ℕ) (last one : State) : Type 0 where
+  pub record All (more next : ℕ) (one : State) : Type 0 where
     pub rest : List State
     pub bytes : List ℕ
     pub shows : Shows z (blank (area z)) (one ∷ rest) bytes
     pub many : length rest ≡ more
-    pub last-is : lastOf one rest ≡ last
     pub there : drop HEADER-BYTES b ≡ bytes ++ drop next b
     pub next-is : next ≡ HEADER-BYTES + length bytes
 
-  all-through : (more from to : ℕ) (last one : State) → playAll Packed more z b ≡ shown (To from to) last one → All more to last one
+  all-through : (more from to : ℕ) (last one : State) → playAll Packed more z b ≡ shown (To from to) last one → All more to one
   all-through more from to last one e = by (oneFrame Packed z b HEADER-BYTES (blank (area z)) .result) (oneFrame Packed z b HEADER-BYTES (blank (area z)) .after) refl
     where
-      by : (x : Ran) (u : State) → oneFrame Packed z b HEADER-BYTES (blank (area z)) ≡ ran x u → All more to last one
+      by : (x : Ran) (u : State) → oneFrame Packed z b HEADER-BYTES (blank (area z)) ≡ ran x u → All more to one
       by (Stopped f place) u o =
           let k = ap (λ (x : Shown). x .result) (sym (all-stopped Packed more z b u f place o) ∙ e) in let q : _≡_ {A = ℕ} 0 1 = cc in absurd (omega arith)
       by (To here end) u o =
@@ -71,13 +69,12 @@ module _ (z : Size) (b : List ℕ) where
           let run : p ≡ ran (To from to) last = ap (λ (x : Shown). ran (x .result) (x .last)) l in
           let i = one-led z b HEADER-BYTES (blank (area z)) here end u o in
           let r = played-through z b more here end u from to last run in
-          subst (All more to last) same
+          subst (All more to) same
           (record {
             rest = r .states;
             bytes = i .bytes ++ r .bytes;
             shows = next (i .leads) (r .shows);
             many = r .many;
-            last-is = r .last;
             there = i .there ∙ ap (λ (x : List ℕ). i .bytes ++ x) (r .there) ∙ sym (append-assoc (i .bytes) (r .bytes) (drop to b));
             next-is = omega (arith, r .next-is, i .end-is, length-append (i .bytes) (r .bytes));
           })
