@@ -144,7 +144,7 @@ fn list_reel(
 }
 
 // The listing of bytes, in a buffer that holds any; gives its length.
-fn list_text(out: &mut [u8], bytes: &[u8]) -> usize
+pub fn list_text(out: &mut [u8], bytes: &[u8]) -> usize
     requires { ⌜ listMost ≤ length (now out) ⌝ }
     ensures { λ r. ⌜ Stored (now (out .entry)) 0 (listing (now (bytes .entry))) (now (out .exit)) r ⌝ }
 {

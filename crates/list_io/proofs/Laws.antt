@@ -1,25 +1,24 @@
--- A listing that was written has no more bytes than the output.
-use mathlib.Core.Path.{_≡_, ap}
-use mathlib.Core.List.{List, [], _∷_}
-use mathlib.Core.Bool.{cond}
-use Prim.Native.Nat.{ℕ, _≤_}
+-- A listing that was stored, of an input that was read to the front of a room for it, and how long it can be.
+use Prim.Native.Nat.{ℕ, suc, _≤_}
+use mathlib.Core.List.{List}
 use native.Mathlib.Omega.{arith}
-use borrow.Author.Tests.{leb-true}
-use lib.Dec.{leb}
-use lib.ListN.{length}
-use Rattle.words.specs.Writes.{put}
-use Rattle.words.proofs.Tests.{by-test}
-use Rattle.answer.specs.Answer.{done}
-use Rattle.answer.specs.declared.Refusal.the-variants.{NoRoom}
-use Rattle.state.specs.Outcome.{Outcome, lentBytes, leaves, refuse}
-use Rattle.list_chunks.specs.Listing.{listing, list}
+use lib.ListN.{length, take}
+use lib.Seq.{length-take-le}
+use Rattle.words.specs.Words.{Bytes}
+use Rattle.words.proofs.Laws.{bytes-take}
+use Rattle.list_text.specs.Stored.{Stored}
+use Rattle.list_text.proofs.Resumes.{stored-whole}
+use Rattle.list_chunks.specs.Listing.{LIST-INPUT, listing}
+use Rattle.list_chunks.specs.Room.{listMost}
+use Rattle.list_chunks.proofs.Short.{listing-short}
+use Rattle.list_io.specs.Printed.{Printed}
 
-pub listed-within : (b out x : List ℕ) (n : ℕ) → leaves (done (n ∷ [])) (lentBytes x) ≡ list b out → n ≤ length out
-unfolding list
-listed-within b out x n o =
-    let text = listing b in
-    by-test (λ t. done (n ∷ []) ≡ cond t (leaves (done (length text ∷ [])) (lentBytes (put out 0 text))) (refuse NoRoom 0 (lentBytes out)) .said → n ≤ length out)
-    (leb (length text) (length out))
-    (λ e p. let z : n ≡ length text = cc in omega (arith, z, leb-true (length text) (length out) e))
-    (λ e p. let z : _≡_ {A = ℕ} 0 1 = cc in absurd (omega arith))
-    (ap (λ (y : Outcome). y .said) o)
+-- n: how many bytes were read
+pub printed : (room : List ℕ) (n : ℕ) {d e : List ℕ} {r : ℕ} → Bytes room → length room ≤ suc LIST-INPUT → n ≤ length room
+    → Stored d 0 (listing (take n room)) e r → Printed r
+printed room n b h k s =
+    record { input = take n room; bytes = bytes-take n room b; short = omega (arith, length-take-le n room k); count-is = stored-whole s }
+
+-- no more than the room for any listing
+pub printed-short : {r : ℕ} → Printed r → r ≤ listMost
+printed-short p = omega (arith, p .count-is, listing-short (p .input) (p .bytes))

@@ -1,10 +1,10 @@
 // The listing from standard input to standard output. No contract can say which bytes a call of C's reads or writes.
 ghost use mathlib.Core.Path.{_≡_};
-ghost use Prim.Native.Nat.{suc, _≤_};
+ghost use Prim.Native.Nat.{suc};
 ghost use lib.ListN.{length};
 ghost use Rattle.list_chunks.specs.Listing.{LIST-INPUT};
 ghost use Rattle.list_chunks.specs.Room.{listMost};
-use answer::Written;
+ghost use Rattle.list_io.specs.Printed.{Printed};
 use list_chunks::LIST_INPUT;
 use list_chunks::LIST_MOST;
 
@@ -24,16 +24,14 @@ fn text_room() -> [u8; LIST_MOST]
 
 // Lists what standard input holds, and gives how many bytes the text has.
 pub fn list_input() -> usize
-    ensures { λ r. ⌜ r ≤ listMost ⌝ }
+    ensures { λ r. ⌜ Printed r ⌝ }
 {
-    let mut bytes = input_room();
-    let n = io::read_full(0, &mut bytes);
+    let mut room = input_room();
     let mut text = text_room();
-    match list_chunks::list_into(&bytes[..n], &mut text) {
-        Written::Refused(_, _) => 0,
-        Written::Done(count) => {
-            io::write_all(1, &text[0..count]);
-            count
-        }
-    }
+    let bytes: &mut [u8] = &mut room;
+    let n = io::read_full(0, bytes);
+    let input = &bytes[..];
+    let count = list_chunks::list_text(&mut text, &input[0..n]);
+    io::write_all(1, &text[0..count]);
+    count
 }

@@ -213,6 +213,10 @@ bytes-getD [] i h = omega arith
 bytes-getD (x ∷ xs) zero h = h .0
 bytes-getD (x ∷ xs) (suc i) h = bytes-getD xs i (h .1)
 
+pub bytes-each : (xs : List ℕ) → ((i : ℕ) → getD xs i 0 < 256) → Bytes xs
+bytes-each [] h = tt
+bytes-each (x ∷ xs) h = (h 0, bytes-each xs (λ i. h (suc i)))
+
 pub bytes-take : (n : ℕ) (xs : List ℕ) → Bytes xs → Bytes (take n xs)
 bytes-take zero xs h = tt
 bytes-take (suc n) [] h = tt
