@@ -5,13 +5,13 @@ use mathlib.Core.Logic.{⊎-elim}
 use Prim.Native.Nat.{ℕ, suc, _+_, _-_, _*_, _%_, _≤_, _<_, min}
 use native.Mathlib.Omega.{arith}
 use native.Mathlib.Decide.{ℕ-discrete as decEq}
-use lib.ListN.{length, getD, drop, set, length-drop, length-set}
+use lib.ListN.{length, getD, drop, set, drop-of-length-le, length-drop, length-set}
 use lib.Seq.{getD-set-same, getD-set-other, drop-length, drop-cons}
 use Rattle.house_least.specs.Least.{best, table}
 use Rattle.format.specs.Limits.{maxWidth, Wide}
 use Rattle.house_least.proofs.Laws.{le-or-lt}
-use Rattle.house_rows.specs.Row.{houseBytes}
-use Rattle.house_rows.specs.Search.{turns, Planned, Lowest, sumAt, Small, Window}
+use Rattle.house_rows.specs.Row.{house, bytes, houseBytes}
+use Rattle.house_rows.specs.Search.{turns, typeAt, Planned, Lowest, sumAt, Small, Window}
 use Rattle.house_rows.proofs.Lowest.{one, agreed, the}
 use Rattle.house_rows.proofs.RowRule.{leastSize, house-size}
 use Rattle.house_rows.proofs.Steps.{Noted, run, from, reach, repeat-best, copy-best, run-one, run-same, run-other, run-bound, run-some, size-up}
@@ -25,14 +25,18 @@ window-agreed d e w t split near far same v = record {
   away = λ h j l k. agreed d e (split + 1) j (getD far j 0) (λ n a b. same n (omega (arith, v .close .low, v .close .high)) (omega (arith, v .whole h))) (v .away h j l k);
 }
 
--- the costs and first bytes of the rests from i on
+-- the costs and first bytes of the rests from i on, past the row too
 pub record Known (row cost first : List ℕ) (i : ℕ) : Type 0 where
   pub costs : (j : ℕ) → i ≤ j → j ≤ length row → getD cost j 0 ≡ from row j
-  pub firsts : (j : ℕ) → i ≤ j → j < length row → getD first j 0 ≡ getD (houseBytes (drop j row)) 0 0
+  pub firsts : (j : ℕ) → i ≤ j → getD first j 0 ≡ typeAt row j
 
 pub from-end : (row : List ℕ) → from row (length row) ≡ 0
 unfolding from leastSize best table
 from-end row = rw drop-length
+
+pub type-past : (row : List ℕ) (j : ℕ) → length row ≤ j → typeAt row j ≡ 0
+unfolding houseBytes bytes house best table
+type-past row j h = rw (drop-of-length-le row {i = j} h)
 
 -- an entry of a list with one entry changed
 set-cases : (P : ℕ → Type 0) (l : List ℕ) (i j v : ℕ) → i < length l → (j ≡ i → P v) → ((j ≡ i → ⊥) → P (getD l j 0)) → P (getD (set l i v) j 0)
@@ -57,10 +61,10 @@ known-more row cost first i n b fit fit′ k note = record {
       set-cases (λ v. v ≡ from row j) cost i j n fit
       (λ e. sym (note .size) ∙ house-size (drop i row) ∙ ap (λ (m : ℕ). leastSize (drop m row)) (sym e))
       (λ e. k .costs j (omega arith) h);
-  firsts = λ j l h.
-      set-cases (λ v. v ≡ getD (houseBytes (drop j row)) 0 0) first i j b fit′
-      (λ e. sym (note .first) ∙ ap (λ (m : ℕ). getD (houseBytes (drop m row)) 0 0) (sym e))
-      (λ e. k .firsts j (omega arith) h);
+  firsts = λ j l.
+      set-cases (λ v. v ≡ typeAt row j) first i j b fit′
+      (λ e. sym (note .first) ∙ ap (typeAt row) (sym e))
+      (λ e. k .firsts j (omega arith));
 }
 
 noted-as : (s : List ℕ) {n n′ b b′ : ℕ} → Noted s n b → n ≡ n′ → b ≡ b′ → Noted s n′ b′
@@ -86,12 +90,12 @@ module _ (row cost first : List ℕ) (i : ℕ) (last : i + 1 ≡ length row) whe
       (ap (λ (r : ℕ). 2 + from row (i + r)) run-last ∙ ap (λ (n : ℕ). 2 + n) end)
       run-last
 
-  pub known-last : i < length cost → i < length first → getD cost (i + 1) 0 ≡ 0 → Known row (set cost i 2) (set first i 1) i
-  known-last fit fit′ nought =
+  pub known-last : i < length cost → i < length first → getD cost (i + 1) 0 ≡ 0 → ((j : ℕ) → getD first j 0 ≡ 0) → Known row (set cost i 2) (set first i 1) i
+  known-last fit fit′ nought empty =
       known-more row cost first i 2 1 fit fit′
       (record {
         costs = λ j l h. ap (λ (n : ℕ). getD cost n 0) (the (j ≡ i + 1) (omega arith)) ∙ nought ∙ sym end ∙ ap (from row) (the (i + 1 ≡ j) (omega arith));
-        firsts = λ j l h. absurd (omega arith);
+        firsts = λ j l. empty j ∙ sym (type-past row j (omega arith));
       })
       note-last
 
@@ -145,9 +149,9 @@ pub record Searching (row : List ℕ) (w : ℕ) (cost first far : List ℕ) (i l
   pub aligned : split % 128 ≡ w % 128
 
 pub searching-last : (row cost first far : List ℕ) (w i : ℕ) → w ≡ length row → Wide w → i + 1 ≡ w
-    → length cost ≡ maxWidth + 1 → length first ≡ maxWidth → length far ≡ maxWidth + 1 → Small cost → getD cost w 0 ≡ 0
+    → length cost ≡ maxWidth + 1 → length first ≡ maxWidth → length far ≡ maxWidth + 1 → Small cost → getD cost w 0 ≡ 0 → ((j : ℕ) → getD first j 0 ≡ 0)
     → Searching row w (set cost i 2) (set first i 1) far i 1 w w 0
-searching-last row cost first far w i whole high last costs firsts fars small nought = record {
+searching-last row cost first far w i whole high last costs firsts fars small nought empty = record {
   whole = whole;
   high = high;
   inside = omega arith;
@@ -155,7 +159,7 @@ searching-last row cost first far w i whole high last costs firsts fars small no
   firsts = simp length-set (omega arith);
   fars = fars;
   small = small-set cost i 2 (omega arith) (omega arith) small;
-  known = known-last row cost first i (last ∙ whole) (omega arith) (omega arith) (ap (λ (n : ℕ). getD cost n 0) last ∙ nought);
+  known = known-last row cost first i (last ∙ whole) (omega arith) (omega arith) (ap (λ (n : ℕ). getD cost n 0) last ∙ nought) empty;
   run-is = sym (run-last row cost first i (last ∙ whole));
   window = subst (λ (n : ℕ). Window (reach row) n (i + 1) n n far) (sym whole) (window-last row cost first i (last ∙ whole) far);
   counted = omega arith;
@@ -245,7 +249,8 @@ pub searching-done : {row cost first far : List ℕ} {w i longest split near cou
 unfolding turns from
 searching-done s z = record {
   size-is = s .known .costs 0 (omega arith) (omega arith) ∙ sym (house-size _);
-  types = λ j h. s .known .firsts j (omega arith) h;
+  long = s .firsts;
+  types = λ j. s .known .firsts j (omega arith);
   count-is = omega (arith, s .counted, s .aligned, s .whole, s .window .narrow, s .window .close .low, s .window .close .high);
 }
 

@@ -12,14 +12,19 @@ use Rattle.house_rows.specs.Row.{houseBytes}
 unfoldable pub turns : ℕ → ℕ
 turns w = w - 1 + 128 * ((w - 1) / 128)
 
--- at each pixel of a row the first byte, a packet's type, of the house row from there
-abbrev pub Types : List ℕ → List ℕ → Type 0
-Types row first = (i : ℕ) → i < length row → getD first i 0 ≡ getD (houseBytes (drop i row)) 0 0
+-- the first byte, a packet's type, of the house row from pixel i on; past the row, where nothing is left, 0
+abbrev pub typeAt : List ℕ → ℕ → ℕ
+typeAt row i = getD (houseBytes (drop i row)) 0 0
 
--- what the search gives back of a row
+-- that byte at each pixel of a row
+abbrev pub Types : List ℕ → List ℕ → Type 0
+Types row first = (i : ℕ) → i < length row → getD first i 0 ≡ typeAt row i
+
+-- what the search gives back of a row: the row's size, that byte for each pixel of the widest row, and the turns taken
 pub record Planned (row first : List ℕ) (size count : ℕ) : Type 0 where
   pub size-is : size ≡ length (houseBytes row)
-  pub types : Types row first
+  pub long : length first ≡ maxWidth
+  pub types : (i : ℕ) → getD first i 0 ≡ typeAt row i
   pub count-is : count ≡ turns (length row)
 
 -- m is the last of a to b at which d is least

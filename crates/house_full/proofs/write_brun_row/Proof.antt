@@ -6,7 +6,7 @@ use Rattle.house_full.proofs.write_brun_row.Statement.{statement}
 use Rattle.house_full.proofs.write_brun_row.Tie as tie
 
 write-row-requires : tie.Need-write-row-requires
-write-row-requires c κs = (c .before .before .before .before .before .before .pre .1, c .before .before .before .plan-row .ensures .types, omega (arith, length-row (c .before .before .before .before .before .before .args .row .now)))
+write-row-requires c κs = (c .before .before .before .before .before .before .pre .1, λ i h. c .before .before .before .plan-row .ensures .types i, omega (arith, length-row (c .before .before .before .before .before .before .args .row .now)))
 
 slice-write-out : tie.Need-slice-write-out
 slice-write-out c = omega (arith, length-row (c .before .before .before .before .before .before .before .before .before .before .args .row .now))

@@ -1,4 +1,4 @@
--- `plan_row` meets its contract. The invariant: the costs and first bytes from pixel i on are the house rows', run is the longest repeat at i, and the window stands at i + 1; one pixel more is a step of `Steps`.
+-- `plan_row` meets its contract. The invariant: the costs and first bytes from pixel i on are the house rows', 0 past the row, run is the longest repeat at i, and the window stands at i + 1; one pixel more is a step of `Steps`.
 use mathlib.Core.Path.{_≡_, refl}
 use Prim.Native.Nat.{ℕ, _+_, _-_}
 use native.Mathlib.Omega.{arith}
@@ -21,8 +21,8 @@ abbrev μ-loop : tie.MeasureT-loop
 loop-holds : tie.Need-loop-holds Inv-loop μ-loop
 loop-holds c =
     let row = c .before .args .row .now in
-    searching-last row (replicate (maxWidth + 1) 0) (replicate maxWidth 0) (replicate (maxWidth + 1) 0) (length row) (length row - 1) refl (omega arith) (omega arith)
-    (length-replicate {A = ℕ} (maxWidth + 1) 0) (length-replicate {A = ℕ} maxWidth 0) (length-replicate {A = ℕ} (maxWidth + 1) 0) (λ j. omega (arith, getD-zeros (maxWidth + 1) j)) (getD-zeros (maxWidth + 1) (length row))
+    searching-last row (replicate (maxWidth + 1) 0) (replicate maxWidth _) (replicate (maxWidth + 1) 0) (length row) (length row - 1) refl (omega arith) (omega arith)
+    (length-replicate {A = ℕ} (maxWidth + 1) 0) (length-replicate {A = ℕ} maxWidth 0) (length-replicate {A = ℕ} (maxWidth + 1) 0) (λ j. omega (arith, getD-zeros (maxWidth + 1) j)) (getD-zeros (maxWidth + 1) (length row)) (getD-zeros maxWidth)
 
 longest-requires : tie.Need-longest-requires Inv-loop μ-loop
 longest-requires c κs = omega (arith, c .before .before .before .loop .inv .run-is, run-bound (drop (c .before .before .before .loop .i) (c .before .before .before .before .before .args .row .now)))
