@@ -1,7 +1,7 @@
 -- Demand 2 of writing, in terms of the entry points (`demand2`).
 use mathlib.Core.Path.{_≡_, refl, sym, ap, ap₂, _∙_}
 use mathlib.Core.List.{List, [], _∷_}
-use mathlib.Core.Bool.{Bool, true, false, _&&_, cond}
+use mathlib.Core.Bool.{Bool, true, _&&_, cond}
 use Prim.Native.Nat.{ℕ, _≤_}
 use native.Mathlib.Omega.{arith}
 use borrow.Author.Tests.{le-leb}
@@ -14,13 +14,12 @@ use Rattle.words.proofs.Laws.{put-front, bytes-take}
 use Rattle.words.proofs.Tests.{both-true}
 use Rattle.format.specs.Limits.{sizeOk, area}
 use Rattle.format.specs.declared.Size.{Size}
-use Rattle.answer.specs.Answer.{done}
-use Rattle.answer.specs.declared.Refusal.{Refusal}
-use Rattle.answer.specs.declared.Refusal.the-variants.{ShortSlice, BadSize, NoRoom}
+use Rattle.answer.specs.Answer.{Said, done}
+use Rattle.answer.specs.declared.Refusal.the-variants.{NoRoom}
 use Rattle.answer.specs.declared.Answer.the-variants.{Done}
 use Rattle.state.specs.State.{State, state, enough, front, refilled}
 use Rattle.state.specs.Outcome.{Outcome, lentBytes, lentPair, leaves, refuse, fitted}
-use Rattle.state.proofs.Laws.{front-exact}
+use Rattle.state.proofs.Laws.{front-exact, passed}
 use Rattle.read_frame.specs.Reading.{readFrame}
 use Rattle.read_frame.proofs.Laws.{read-by}
 use Rattle.house_frame.specs.House.{houseFrame, frameMost}
@@ -29,12 +28,6 @@ use Rattle.house_frame.proofs.Laws.{house-short}
 use Rattle.house_back.specs.Demand2.{Demand2}
 use Rattle.house_back.specs.Plays.{ByteState}
 use Rattle.house_back.proofs.ReadsBack.{house-reads-back}
-
--- a call that is done has passed a test
-passed : (t : Bool) (x : Outcome) (e : Refusal) (out : List ℕ) (n : ℕ) → cond t x (refuse e 0 (lentBytes out)) .said ≡ done (n ∷ [])
-    → (t ≡ true) × (x .said ≡ done (n ∷ []))
-passed true x e out n d = (refl, d)
-passed false x e out n d = let z : _≡_ {A = ℕ} 0 1 = cc in absurd (omega arith)
 
 module _ (z : Size) (previous next : State) where
   abbrev from : State
@@ -62,20 +55,21 @@ module _ (z : Size) (previous next : State) where
     done-with : (n : ℕ) → writeFrame z previous next out .said ≡ done (n ∷ []) → Done-with out n
     unfolding writeFrame
     done-with n d =
-        let e = passed (sizeOk (z .width) (z .height)) _ BadSize out n d in
-        let k = passed (enough (area z) previous && enough (area z) next) _ ShortSlice out n (e .1) in
-        let l = passed (leb (length f) (length out)) _ NoRoom out n (k .1) in
+        let o = writeFrame z previous next out in
+        let said : Outcome → Said = λ x. x .said in
+        let e = passed said (sizeOk (z .width) (z .height)) {o = o} refl d refl in
+        let k = passed said (enough (area z) previous && enough (area z) next) (e .1) d refl in
+        let l = passed said (leb (length f) (length out)) (k .1) d refl in
         let b = both-true (enough (area z) previous) (enough (area z) next) (k .0) in
-        let m : length f ≡ n = same-number (l .1) in
         record {
           size = e .0;
           previous-long = b .0;
           next-long = b .1;
-          many = sym m;
-          bytes = ap (λ (o : Outcome). o .memory .bytes) (written (e .0) (b .0) (b .1)) ∙ ap (λ (t : Bool). cond t (leaves (done (length f ∷ [])) (lentBytes (put out 0 f))) (refuse NoRoom 0 (lentBytes out)) .memory .bytes) (l .0);
+          many = same-number (sym d ∙ ap said (sym (l .1)));
+          bytes = ap (λ (x : Outcome). x .memory .bytes) (sym (l .1));
         }
       where
-        same-number : done (length f ∷ []) ≡ done (n ∷ []) → length f ≡ n
+        same-number : done (n ∷ []) ≡ done (length f ∷ []) → n ≡ length f
         same-number q = cc
 
   module _ (bn : Bytes (next .picture)) (bp : Bytes (previous .picture)) where

@@ -18,13 +18,13 @@ use Rattle.words.proofs.Tests.{by-test}
 use Rattle.format.specs.Format.{FLI-COLOR256, FLI-BLACK, FLI-BRUN, FLI-COPY}
 use Rattle.format.specs.Limits.{area, sizeOk}
 use Rattle.format.specs.declared.Size.{Size}
-use Rattle.answer.specs.Answer.{done, refused}
-use Rattle.answer.specs.declared.Refusal.the-variants.{ShortSlice, BadSize, NoRoom}
+use Rattle.answer.specs.Answer.{Said, done, refused}
+use Rattle.answer.specs.declared.Refusal.the-variants.{ShortSlice, NoRoom}
 use Rattle.answer.specs.declared.Answer.{Answer}
 use Rattle.answer.specs.declared.Answer.the-variants.{Done, Refused}
 use Rattle.state.specs.State.{State, state, enough, front, Exact}
-use Rattle.state.specs.Outcome.{Outcome, lentBytes, lentPair, lentBytesPair, leaves, refuse, fitted}
-use Rattle.state.proofs.Laws.{enough-is, front-exact}
+use Rattle.state.specs.Outcome.{Outcome, lentBytes, lentBytesPair, leaves, refuse, fitted}
+use Rattle.state.proofs.Laws.{enough-is, front-exact, passed}
 use Rattle.house_colour.specs.Colours.{colourBody}
 use Rattle.house_colour.proofs.ReadsBack.{colour-short}
 use Rattle.house_full.specs.Full.{fullChunk}
@@ -57,15 +57,15 @@ record Taken (z : Size) (previous : State) (b : List ℕ) : Type 0 where
 
 taken : (z : Size) (previous : State) (b : List ℕ) → Accepted z previous b → Taken z previous b
 unfolding readFrame
-taken z previous b e = go (sizeOk (z .width) (z .height)) refl (enough (area z) previous) refl (frame z b .answer) refl e
+taken z previous b e =
+    let said : Outcome → Said = λ o. o .said in
+    let s = passed said (sizeOk (z .width) (z .height)) {o = readFrame b z previous} refl e refl in
+    let r = passed said (enough (area z) previous) (s .1) e refl in
+    record { size = s .0; room = r .0; answer = answered (frame z b .answer) (ap said (r .1) ∙ e) }
   where
-    go : (c : Bool) → sizeOk (z .width) (z .height) ≡ c → (d : Bool) → enough (area z) previous ≡ d → (a : Answer) → frame z b .answer ≡ a
-        → (require c else refuse BadSize 0 (lentPair previous) then require d else refuse ShortSlice 0 (lentPair previous) then readBy (area z) (frame z b) a previous) .said ≡ done []
-        → Taken z previous b
-    go false s d r a f e = refused-not-done e
-    go true s false r a f e = refused-not-done e
-    go true s true r (Refused x at) f e = refused-not-done e
-    go true s true r Done f e = record { size = s; room = r; answer = f }
+    answered : (a : Answer) → readBy (area z) (frame z b) a previous .said ≡ done [] → a ≡ Done
+    answered Done k = refl
+    answered (Refused x place) k = refused-not-done k
 
 module _ (z : Size) (previous : State) where
   -- the previous state

@@ -2,7 +2,7 @@
 -- The idea: the close's own playing has shown that the reel's bytes are frames that lead from blank to some states; what follows needs no more.
 use mathlib.Core.Path.{_≡_, refl, sym, ap, ap₂, _∙_, subst}
 use mathlib.Core.List.{List, [], _∷_, _++_, append-assoc, append-nil}
-use mathlib.Core.Bool.{Bool, true, false, _&&_, cond}
+use mathlib.Core.Bool.{Bool, true, false, _&&_}
 use Prim.Native.Nat.{ℕ, suc, _+_, _-_, _≤_}
 use native.Mathlib.Omega.{arith}
 use borrow.Author.Tests.{leb-true}
@@ -15,36 +15,27 @@ use Rattle.words.proofs.Tests.{by-test}
 use Rattle.format.specs.Limits.{sizeOk, area}
 use Rattle.format.specs.declared.Size.{Size}
 use Rattle.answer.specs.Answer.{done}
-use Rattle.answer.specs.declared.Refusal.{Refusal}
-use Rattle.answer.specs.declared.Refusal.the-variants.{ShortSlice, BadSize, Cut, WrongTime}
 use Rattle.state.specs.State.{State, blank, enough}
-use Rattle.state.specs.Outcome.{Memory, lentBytes, lentBytesPairs}
-use Rattle.state.proofs.Laws.{enough-is}
+use Rattle.state.proofs.Laws.{enough-is, passed}
 use Rattle.chunks.specs.declared.Layout.the-variants.{Packed}
 use Rattle.chunks.specs.Spans.{HEADER-BYTES}
-use Rattle.house_frame.specs.House.{houseFrame}
 use Rattle.reel_header.specs.Written.{opened}
 use Rattle.reel_play.specs.Play.{ran, oneFrame, frames, Shown, shown, playAll}
 use Rattle.reel_play.specs.declared.Ran.{Ran}
 use Rattle.reel_play.specs.declared.Ran.the-variants.{Stopped, To}
 use Rattle.reel_play.proofs.Laws.{all-stopped, all-more}
 use Rattle.reel_build.specs.declared.Reel.{Reel}
-use Rattle.reel_build.specs.Record.{reelOf, ReelOutcome, keeps}
+use Rattle.reel_build.specs.Record.{reelOf}
 use Rattle.reel_build.specs.Building.{endOk}
 use Rattle.reel_build.proofs.Laws.{end-in}
-use Rattle.reel_close.specs.Closing.{ownPlaying, ringWritten, ringAfter, closeOk, closeReel}
+use Rattle.reel_close.specs.Closing.{ownPlaying, ringAfter, closeOk, closeReel}
 use Rattle.reel_close.proofs.Laws.{own-record, own-played, close-few}
 use Rattle.reel_laws.specs.Building.{ClosedFile}
 use Rattle.reel_laws.proofs.Laps.{accepted-leads-back}
 use Rattle.reel_laws.proofs.Frames.{Shows, next, exact-start, byte-start}
-use Rattle.reel_laws.proofs.Making.{Holds}
+use Rattle.reel_laws.proofs.Making.{says, Holds}
 use Rattle.reel_laws.proofs.Built.{close-finishes}
 use Rattle.reel_laws.proofs.Played.{one-led, played-through, shows-each}
-
--- a call that is done has passed a test
-passed : (t : Bool) (x : ReelOutcome) (r : Reel) (e : Refusal) (m : Memory) → cond t x (keeps r e 0 m) .left .said ≡ done [] → (t ≡ true) × (x .left .said ≡ done [])
-passed true x r e m d = (refl, d)
-passed false x r e m d = let z : _≡_ {A = ℕ} 0 1 = cc in absurd (omega arith)
 
 -- frame 1 and the frames behind it, played back to back
 module _ (z : Size) (b : List ℕ) where
@@ -142,17 +133,17 @@ module _ (speed : ℕ) (r : Reel) (b : List ℕ) (bytes-in : Bytes b) (header-in
     unfolding closeReel
     found =
         let n = area (r .size) in
-        let e₁ = passed (closeOk (r .frames) (r .closed)) _ r WrongTime (lentBytesPairs b p q) d in
-        let e₂ = passed (sizeOk (r .size .width) (r .size .height)) _ r BadSize (lentBytesPairs b p q) (e₁ .1) in
-        let e₃ = passed (enough n p && enough n q) _ r ShortSlice (lentBytesPairs b p q) (e₂ .1) in
-        let x = ownPlaying r b in
-        by-result (e₁ .0) (e₂ .0) (x .result) refl (e₃ .1)
+        let o = closeReel r b p q in
+        let e₁ = passed says (closeOk (r .frames) (r .closed)) {o = o} refl d refl in
+        let e₂ = passed says (sizeOk (r .size .width) (r .size .height)) (e₁ .1) d refl in
+        let e₃ = passed says (enough n p && enough n q) (e₂ .1) d refl in
+        by-result (e₁ .0) (e₂ .0) (ownPlaying r b .result) refl (ap says (e₃ .1) ∙ d)
       where
         by-result : closeOk (r .frames) (r .closed) ≡ true → sizeOk (r .size .width) (r .size .height) ≡ true → (y : Ran) → ownPlaying r b .result ≡ y
             → ringAfter r b y (ownPlaying r b .last) (ownPlaying r b .one) .left .said ≡ done [] → Found
         by-result taken sized (Stopped e place) own k = let z : _≡_ {A = ℕ} 0 1 = cc in absurd (omega arith)
         by-result taken sized (To from to) own k =
-            let t = passed (leb (r .end) to) (ringWritten r (houseFrame (r .size) (ownPlaying r b .last) (ownPlaying r b .one)) b) r Cut (lentBytes b) k in
+            let t = passed says (leb (r .end) to) {o = ringAfter r b (To from to) (ownPlaying r b .last) (ownPlaying r b .one)} refl k refl in
             ended taken sized (ownPlaying r b) refl from to own (leb-true (r .end) to (t .0))
 
     pub closed-leads-back : ClosedFile (take (closeReel r b p q .reel .end) (closeReel r b p q .left .memory .bytes)) (closeReel r b p q .reel)

@@ -4,7 +4,7 @@
 use mathlib.Core.Path.{_≡_, refl, sym, ap, ap₂, _∙_, subst}
 use mathlib.Core.List.{List, [], _∷_, _++_, append-nil}
 use mathlib.Core.Bool.{Bool, true, false, _&&_, cond}
-use Prim.Native.Nat.{ℕ, zero, suc, _+_, _*_, _-_, _≤_}
+use Prim.Native.Nat.{ℕ, zero, suc, _*_, _≤_}
 use native.Mathlib.Omega.{arith}
 use native.Mathlib.Nat.{not-suc-le-zero}
 use lib.ListN.{length, take, drop, drop-of-length-le, length-replicate}
@@ -12,13 +12,13 @@ use lib.Seq.{take-all}
 use Rattle.words.specs.Words.{part, same}
 use Rattle.words.specs.Writes.{Write, applied}
 use Rattle.words.proofs.Laws.{same-eq}
-use Rattle.answer.specs.declared.Refusal.the-variants.{ShortSlice, BadRing}
+use Rattle.answer.specs.declared.Refusal.the-variants.{BadRing}
 use Rattle.answer.specs.declared.Answer.{Answer}
 use Rattle.answer.specs.declared.Answer.the-variants.{Done, Refused}
 use Rattle.answer.proofs.Laws.{told-injective}
 use Rattle.words.proofs.Tests.{both-true}
 use Rattle.read_frame.specs.Frame.{frame}
-use Rattle.state.proofs.Laws.{enough-is}
+use Rattle.state.proofs.Laws.{enough-is, passed}
 use Rattle.reel_header.specs.Head.{headOf}
 use Rattle.chunks.specs.declared.Layout.the-variants.{Loose}
 use Rattle.chunks.specs.Spans.{HEADER-BYTES, Spans, frameSpans, nextAt}
@@ -29,21 +29,20 @@ use Rattle.chunks.specs.declared.Next.{Next}
 use Rattle.chunks.specs.declared.Next.the-variants.{Fault, Frame}
 use Rattle.reel_header.proofs.Laws.{head-in}
 use Rattle.reel_play.specs.Play.{Progress, ran, ranBy, met, oneFrame, frames, Shown, shown, shownAfter, playAll}
-use Rattle.reel_play.proofs.Laws.{frames-none, frames-stopped, frames-more}
+use Rattle.reel_play.proofs.Laws.{not-to, frames-played}
 use Rattle.reel_play.specs.declared.Ran.{Ran}
 use Rattle.reel_play.specs.declared.Ran.the-variants.{Stopped, To}
 use Rattle.reel_laws.specs.Laps.{lastOf, times, statesBy, statesOf, states, laps, Reads, none, next, LeadsBack}
-use Rattle.words.specs.Words.{require_else_then_}
 use Rattle.format.specs.Limits.{area, sizeOf, sizeOk, Sized}
 use Rattle.format.specs.declared.Size.{Size}
 use Rattle.format.proofs.Laws.{size-in}
-use Rattle.answer.specs.Answer.{done, told}
+use Rattle.answer.specs.Answer.{Said, done, told}
 use Rattle.state.specs.State.{State, state, blank, enough, refilled, Exact}
-use Rattle.state.specs.Outcome.{Outcome, lentPair, lentPairs, leaves, refuse}
+use Rattle.state.specs.Outcome.{Outcome, lentPair, lentPairs, leaves}
 use Rattle.read_frame.specs.Reading.{played, readFrame}
 use Rattle.read_frame.proofs.Laws.{read-by}
 use Rattle.read_frame.proofs.Sound.{played-exact}
-use Rattle.reel_check.specs.Check.{ringed, ringAnswer, checkedBy, afterHead, checkReel}
+use Rattle.reel_check.specs.Check.{ringed, ringAnswer, afterHead, checkReel}
 
 -- lists of states
 
@@ -97,7 +96,7 @@ module _ (z : Size) (ok : sizeOk (z .width) (z .height) ≡ true) where
       where
         by-answer : (x y : ℕ) → nextAt Loose b at ≡ Frame x y → (a : Answer) → frame z (part b x y) .answer ≡ a → ranBy x y (frame z (part b x y)) a s ≡ ran (To from end) t
             → One at s from end t
-        by-answer x y n (Refused r p) d l = let z = ap (λ (k : Progress). k .result) l in let z : _≡_ {A = ℕ} 0 1 = cc in absurd (omega arith)
+        by-answer x y n (Refused r p) d l = not-to l
         by-answer x y n Done d l =
             let k : To x y ≡ To from end = ap (λ (p : Progress). p .result) l in
             let kx : x ≡ from = cc in
@@ -112,7 +111,7 @@ module _ (z : Size) (ok : sizeOk (z .width) (z .height) ≡ true) where
             }
 
         by : (x : Next) → nextAt Loose b at ≡ x → met z b x s ≡ ran (To from end) t → One at s from end t
-        by (Fault r p) n l = let z = ap (λ (k : Progress). k .result) l in let z : _≡_ {A = ℕ} 0 1 = cc in absurd (omega arith)
+        by (Fault r p) n l = not-to l
         by (Frame x y) n l = by-answer x y n (frame z (part b x y) .answer) refl l
 
     -- frames that were all accepted: their states, read one after the other, end in the state that they came to
@@ -131,7 +130,7 @@ module _ (z : Size) (ok : sizeOk (z .width) (z .height) ≡ true) where
         ranBy-as : (x y : ℕ) (a : Answer) → ranBy x y (frame z (part b x y)) a s ≡ ran (To from end) t
             → statesBy (ranBy x y (frame z (part b x y)) a s .result) (ranBy x y (frame z (part b x y)) a s .after) (λ at′ s′. statesOf z b (frameSpans Loose b count y .met) s′)
             ≡ t ∷ statesOf z b (frameSpans Loose b count end .met) t
-        ranBy-as x y (Refused r p) l = let z = ap (λ (k : Progress). k .result) l in let z : _≡_ {A = ℕ} 0 1 = cc in absurd (omega arith)
+        ranBy-as x y (Refused r p) l = not-to l
         ranBy-as x y Done l =
             let k : To x y ≡ To from end = ap (λ (p : Progress). p .result) l in
             let ky : y ≡ end = cc in
@@ -139,7 +138,7 @@ module _ (z : Size) (ok : sizeOk (z .width) (z .height) ≡ true) where
 
         by : (x : Next) → met z b x s ≡ ran (To from end) t
             → statesOf z b (afterNext x (λ y. frameSpans Loose b count y) .met) s ≡ t ∷ statesOf z b (frameSpans Loose b count end .met) t
-        by (Fault r p) l = let z = ap (λ (k : Progress). k .result) l in let z : _≡_ {A = ℕ} 0 1 = cc in absurd (omega arith)
+        by (Fault r p) l = not-to l
         by (Frame x y) l = ranBy-as x y (frame z (part b x y) .answer) l
 
     states-none : (at : ℕ) (s : State) → states Loose z b 0 at s ≡ []
@@ -148,30 +147,19 @@ module _ (z : Size) (ok : sizeOk (z .width) (z .height) ≡ true) where
 
     frames-through : (count last at : ℕ) (s : State) → Exact z s → (ring end : ℕ) (t : State) → frames Loose z b count last at s ≡ ran (To ring end) t
         → Ran-through count at s t
-    frames-through zero last at s i ring end t e =
-        let is = states-none at s in
-        let l : s ≡ t = ap (λ (p : Progress). p .after) (sym (frames-none Loose z b 0 last at s (omega arith)) ∙ e) in
-        record { reads = subst (Reads z b at s) (sym is) none; many = ap length is; last = ap (lastOf s) is ∙ l }
-    frames-through (suc count) last at s i ring end t e =
-        by (oneFrame Loose z b at s .result) (oneFrame Loose z b at s .after) refl (λ last′ at′ s′ i′ e′. frames-through count last′ at′ s′ i′ ring end t e′)
-      where
-        by : (r : Ran) (u : State) → oneFrame Loose z b at s ≡ ran r u
-            → ((last′ at′ : ℕ) (s′ : State) → Exact z s′ → frames Loose z b count last′ at′ s′ ≡ ran (To ring end) t → Ran-through count at′ s′ t)
-            → Ran-through (suc count) at s t
-        by (Stopped r p) u o go =
-            let z = ap (λ (k : Progress). k .result) (sym (frames-stopped Loose z b (suc count) last at s (omega arith) u r p o) ∙ e) in
-            let z : _≡_ {A = ℕ} 0 1 = cc in absurd (omega arith)
-        by (To from after) u o go =
-            let one = one-read at s i from after u o in
-            let n : suc count - 1 ≡ count = omega arith in
-            let rest = go from after u (one .exact)
-            (ap (λ (k : ℕ). frames Loose z b k from after u) (sym n) ∙ sym (frames-more Loose z b (suc count) last at s (omega arith) u from after o) ∙ e) in
-            let is = states-more count at s from after u o in
-            record {
-              reads = subst (Reads z b at s) (sym is) (next from after u (one .step) (one .read) (rest .reads));
-              many = ap length is ∙ ap suc (rest .many);
-              last = ap (lastOf s) is ∙ rest .last;
-            }
+    frames-through count last at s i ring end t e =
+        frames-played Loose z b ring end t (λ n k u. Exact z u → Ran-through n k u t)
+        (λ x. let is = states-none end t in
+        record { reads = subst (Reads z b end t) (sym is) none; many = ap length is; last = ap (lastOf t) is })
+        (λ n k u from after v o rest x. let one = one-read k u x from after v o in
+        let r = rest (one .exact) in
+        let is = states-more n k u from after v o in
+        record {
+          reads = subst (Reads z b k u) (sym is) (next from after v (one .step) (one .read) (r .reads));
+          many = ap length is ∙ ap suc (r .many);
+          last = ap (lastOf u) is ∙ r .last;
+        })
+        count last at s e i
 
 -- where the answer is done, playing came to its end in frame 1's state
 
@@ -262,22 +250,20 @@ module _ (b : List ℕ) (first second : State) where
 
   accepted-by : (x : Head) → headOf b ≡ x → afterHead b x first second .said ≡ done [] → Accepted (afterHead b x first second)
   accepted-by (head.Fault r) is e = let z : _≡_ {A = ℕ} 0 1 = cc in absurd (omega arith)
-  accepted-by (head.Reel w h count size speed) is e = by (enough (w * h) first && enough (w * h) second) e
-    where
-      by : (c : Bool) → (require c else refuse ShortSlice 0 (lentPairs first second) then checkedBy (w * h) (playAll Loose count (sizeOf w h) (take size b)) first second) .said ≡ done []
-          → Accepted (require c else refuse ShortSlice 0 (lentPairs first second) then checkedBy (w * h) (playAll Loose count (sizeOf w h) (take size b)) first second)
-      by true e =
-          let x = playAll Loose count (sizeOf w h) (take size b) in
-          let a = told-injective (ringAnswer x) Done e in
-          let c = came (x .result) (x .last) (x .one) a in
-          let l = came-leads b (sizeOf w h) count size speed is c in
-          record {
-            leads = l .leads;
-            pairs =
-                ap₂ (λ (u : Answer) (s : State). leaves (told u) (lentPairs (refilled (w * h) s first) (refilled (w * h) (x .one) second))) a (c .same)
-                ∙ ap₂ (λ (n : ℕ) (s : State). leaves (told Done) (lentPairs (refilled n s first) (refilled n s second))) (sym (l .pixels)) (sym (l .shows));
-          }
-      by false e = let z : _≡_ {A = ℕ} 0 1 = cc in absurd (omega arith)
+  accepted-by (head.Reel w h count size speed) is e =
+      let said : Outcome → Said = λ o. o .said in
+      let x = playAll Loose count (sizeOf w h) (take size b) in
+      let k = passed said (enough (w * h) first && enough (w * h) second) {o = afterHead b (head.Reel w h count size speed) first second} refl e refl in
+      let a = told-injective (ringAnswer x) Done (ap said (k .1) ∙ e) in
+      let c = came (x .result) (x .last) (x .one) a in
+      let l = came-leads b (sizeOf w h) count size speed is c in
+      record {
+        leads = l .leads;
+        pairs =
+            sym (k .1)
+            ∙ ap₂ (λ (u : Answer) (s : State). leaves (told u) (lentPairs (refilled (w * h) s first) (refilled (w * h) (x .one) second))) a (c .same)
+            ∙ ap₂ (λ (n : ℕ) (s : State). leaves (told Done) (lentPairs (refilled n s first) (refilled n s second))) (sym (l .pixels)) (sym (l .shows));
+      }
 
   pub accepted-leads-back : checkReel b first second .said ≡ done [] → Accepted (checkReel b first second)
   unfolding checkReel

@@ -2,7 +2,7 @@
 -- An add puts one more such frame at the record's end, a refused one nothing.
 use mathlib.Core.Path.{_≡_, refl, sym, ap, ap₂, _∙_, subst}
 use mathlib.Core.List.{List, [], _∷_, _++_, append-assoc}
-use mathlib.Core.Bool.{Bool, true, false, _&&_, cond}
+use mathlib.Core.Bool.{true, false, _&&_}
 use Prim.Native.Nat.{ℕ, _+_, _*_, _≤_}
 use native.Mathlib.Omega.{arith}
 use borrow.Author.Tests.{ltb-true}
@@ -16,12 +16,10 @@ use Rattle.words.proofs.There.{put-behind}
 use Rattle.words.proofs.Tests.{both-true}
 use Rattle.format.specs.Limits.{sizeOk, area, maxFrames}
 use Rattle.format.specs.declared.Size.{Size}
-use Rattle.answer.specs.Answer.{done}
-use Rattle.answer.specs.declared.Refusal.{Refusal}
-use Rattle.answer.specs.declared.Refusal.the-variants.{ShortSlice, BadSize, NoRoom, Cut, WrongTime}
+use Rattle.answer.specs.Answer.{Said, done}
 use Rattle.state.specs.State.{State, blank, front, enough}
-use Rattle.state.specs.Outcome.{Memory, lentBytes, leaves}
-use Rattle.state.proofs.Laws.{front-exact}
+use Rattle.state.specs.Outcome.{lentBytes, leaves}
+use Rattle.state.proofs.Laws.{front-exact, passed}
 use Rattle.chunks.specs.Spans.{HEADER-BYTES}
 use Rattle.house_frame.specs.House.{houseFrame, frameMost}
 use Rattle.house_frame.proofs.Laws.{house-short}
@@ -29,18 +27,16 @@ use Rattle.house_back.specs.Plays.{ByteState}
 use Rattle.reel_header.specs.Written.{opened}
 use Rattle.reel_header.proofs.Laws.{opened-length}
 use Rattle.reel_build.specs.declared.Reel.{Reel}
-use Rattle.reel_build.specs.Record.{reelOf, noReel, ReelOutcome, builds, keeps}
+use Rattle.reel_build.specs.Record.{reelOf, ReelOutcome, builds}
 use Rattle.reel_build.specs.Building.{openReel, endOk, fits, addFrame}
 use Rattle.reel_laws.specs.Laps.{lastOf}
 use Rattle.reel_laws.specs.Building.{Making, opening, adding, moving, refusing}
 use Rattle.reel_laws.proofs.Kept.{add-refused}
 use Rattle.reel_laws.proofs.Frames.{Leads, Shows, none, shows-add, Each, no-state, each-add, each-last, house-leads, byte-start}
 
--- an accepted call has passed a test
-passed : (t : Bool) (x : ReelOutcome) (r₀ : Reel) (e : Refusal) (m n : Memory) (r : Reel) → cond t x (keeps r₀ e 0 m) ≡ builds r (leaves (done []) n)
-    → (t ≡ true) × (x ≡ builds r (leaves (done []) n))
-passed true x r₀ e m n r d = (refl, d)
-passed false x r₀ e m n r d = let f = ap (λ (y : ReelOutcome). y .left .said) d in let z : _≡_ {A = ℕ} 0 1 = cc in absurd (omega arith)
+-- what a call that builds a reel says
+abbrev pub says : ReelOutcome → Said
+says o = o .left .said
 
 -- the invariant
 
@@ -61,8 +57,8 @@ module _ (z : Size) (speed : ℕ) where
   open-holds : (b b′ : List ℕ) (r : Reel) → openReel z speed b ≡ builds r (leaves (done []) (lentBytes b′)) → Holds b′ r []
   unfolding openReel
   open-holds b b′ r e =
-      let f = passed (sizeOk (z .width) (z .height)) _ noReel BadSize (lentBytes b) (lentBytes b′) r e in
-      let g = passed (leb HEADER-BYTES (length b)) _ noReel NoRoom (lentBytes b) (lentBytes b′) r (f .1) in
+      let f = passed says (sizeOk (z .width) (z .height)) e refl refl in
+      let g = passed says (leb HEADER-BYTES (length b)) (f .1) refl refl in
       record {
         size = f .0;
         frames = [];
@@ -98,14 +94,12 @@ module _ (z : Size) (speed : ℕ) where
       let k = length asked in
       let end = HEADER-BYTES + length fs in
       let r₀ = reelOf z k end false in
-      let m = lentBytes b in
-      let m′ = lentBytes b′ in
-      let e₀ : addFrame r₀ b s t ≡ builds r′ (leaves (done []) m′) = subst (λ (x : Reel). addFrame x b s t ≡ builds r′ (leaves (done []) m′)) (i .is) e in
-      let e₁ = passed (ltb k maxFrames) _ r₀ WrongTime m m′ r′ e₀ in
-      let e₂ = passed (sizeOk (z .width) (z .height)) _ r₀ BadSize m m′ r′ (e₁ .1) in
-      let e₃ = passed (enough n s && enough n t) _ r₀ ShortSlice m m′ r′ (e₂ .1) in
-      let e₄ = passed (endOk end (length b)) _ r₀ Cut m m′ r′ (e₃ .1) in
-      let e₅ = passed (fits end f b) _ r₀ NoRoom m m′ r′ (e₄ .1) in
+      let e₀ : addFrame r₀ b s t ≡ builds r′ (leaves (done []) (lentBytes b′)) = ap (λ (x : Reel). addFrame x b s t) (sym (i .is)) ∙ e in
+      let e₁ = passed says (ltb k maxFrames) e₀ refl refl in
+      let e₂ = passed says (sizeOk (z .width) (z .height)) (e₁ .1) refl refl in
+      let e₃ = passed says (enough n s && enough n t) (e₂ .1) refl refl in
+      let e₄ = passed says (endOk end (length b)) (e₃ .1) refl refl in
+      let e₅ = passed says (fits end f b) (e₄ .1) refl refl in
       let more = length-append asked (u ∷ []) in
       let sized : ByteState z u = record { exact = front-exact z t (i .size) n refl (both-true (enough n s) (enough n t) (e₃ .0) .1); bytes = bytes-take n (t .picture) by } in
       let before = each-last z (i .each-sized) (byte-start z (i .size)) in

@@ -1,7 +1,7 @@
 -- Frames that were played back to back, as a close plays its own, lead from one state to the next, whatever form they have.
 use mathlib.Core.Path.{_≡_, refl, sym, ap, _∙_, subst}
 use mathlib.Core.List.{List, [], _∷_, _++_, append-assoc}
-use Prim.Native.Nat.{ℕ, zero, suc, _+_, _-_}
+use Prim.Native.Nat.{ℕ, suc, _+_}
 use native.Mathlib.Omega.{arith}
 use native.Mathlib.Nat.{add-sub-cancel-left}
 use lib.ListN.{length, take, drop, length-append, take-append-drop}
@@ -9,7 +9,6 @@ use lib.Seq.{drop-drop, length-take-le}
 use Rattle.words.specs.Words.{Bytes, part}
 use Rattle.words.proofs.Laws.{bytes-append}
 use Rattle.format.specs.declared.Size.{Size}
-use Rattle.answer.specs.declared.Refusal.{Refusal}
 use Rattle.answer.specs.declared.Answer.{Answer}
 use Rattle.answer.specs.declared.Answer.the-variants.{Done, Refused}
 use Rattle.state.specs.State.{State}
@@ -27,14 +26,10 @@ use Rattle.read_frame.specs.Reading.{played}
 use Rattle.house_back.specs.Plays.{ByteState}
 use Rattle.house_back.proofs.ReadsBack.{played-bytes}
 use Rattle.reel_play.specs.Play.{Progress, ran, oneFrame, frames}
-use Rattle.reel_play.specs.declared.Ran.{Ran}
-use Rattle.reel_play.specs.declared.Ran.the-variants.{Stopped, To}
-use Rattle.reel_play.proofs.Laws.{one-fault, one-refused, one-played, frames-none, frames-stopped, frames-more}
+use Rattle.reel_play.specs.declared.Ran.the-variants.{To}
+use Rattle.reel_play.proofs.Laws.{one-fault, one-refused, one-played, not-to, frames-played}
 use Rattle.reel_laws.specs.Laps.{lastOf}
 use Rattle.reel_laws.proofs.Frames.{Leads, Shows, none, next, Each, no-state, each}
-
-not-to : {C : Type 0} {e : Refusal} {place from end : ℕ} {s t : State} → ran (Stopped e place) s ≡ ran (To from end) t → C
-not-to l = let k = ap (λ (p : Progress). p .result) l in let z : _≡_ {A = ℕ} 0 1 = cc in absurd (omega arith)
 
 module _ (z : Size) (b : List ℕ) where
   -- one frame that was played at offset at
@@ -95,39 +90,20 @@ module _ (z : Size) (b : List ℕ) where
     pub next-is : next ≡ at + length bytes
 
   pub played-through : (count last at : ℕ) (s : State) (from to : ℕ) (t : State) → frames Packed z b count last at s ≡ ran (To from to) t → Through count at s to t
-  played-through zero last at s from to t e =
-      let l = sym (frames-none Packed z b 0 last at s (omega arith)) ∙ e in
-      let k : To last at ≡ To from to = ap (λ (p : Progress). p .result) l in
-      let kn : at ≡ to = cc in
+  played-through count last at s from to t e =
+      frames-played Packed z b from to t (λ n k u. Through n k u to t)
+      (record { states = []; bytes = []; shows = none; many = refl; last = refl; there = refl; next-is = omega arith })
+      (λ n k u here end v o r. let i = one-led k u here end v o in
       record {
-        states = [];
-        bytes = [];
-        shows = none;
-        many = refl;
-        last = ap (λ (p : Progress). p .after) l;
-        there = ap (λ (n : ℕ). drop n b) kn;
-        next-is = sym kn ∙ omega arith;
-      }
-  played-through (suc count) last at s from to t e =
-      by (oneFrame Packed z b at s .result) (oneFrame Packed z b at s .after) refl (λ here end u run. played-through count here end u from to t run)
-    where
-      by : (x : Ran) (u : State) → oneFrame Packed z b at s ≡ ran x u
-          → ((here end : ℕ) (v : State) → frames Packed z b count here end v ≡ ran (To from to) t → Through count end v to t)
-          → Through (suc count) at s to t
-      by (Stopped f place) u o rest = not-to (sym (frames-stopped Packed z b (suc count) last at s (omega arith) u f place o) ∙ e)
-      by (To here end) u o rest =
-          let i = one-led at s here end u o in
-          let n : count ≡ suc count - 1 = omega arith in
-          let r = rest here end u (ap (λ (k : ℕ). frames Packed z b k here end u) n ∙ sym (frames-more Packed z b (suc count) last at s (omega arith) u here end o) ∙ e) in
-          record {
-            states = u ∷ r .states;
-            bytes = i .bytes ++ r .bytes;
-            shows = next (i .leads) (r .shows);
-            many = ap suc (r .many);
-            last = r .last;
-            there = i .there ∙ ap (λ (x : List ℕ). i .bytes ++ x) (r .there) ∙ sym (append-assoc (i .bytes) (r .bytes) (drop to b));
-            next-is = omega (arith, r .next-is, i .end-is, length-append (i .bytes) (r .bytes));
-          }
+        states = v ∷ r .states;
+        bytes = i .bytes ++ r .bytes;
+        shows = next (i .leads) (r .shows);
+        many = ap suc (r .many);
+        last = r .last;
+        there = i .there ∙ ap (λ (x : List ℕ). i .bytes ++ x) (r .there) ∙ sym (append-assoc (i .bytes) (r .bytes) (drop to b));
+        next-is = omega (arith, r .next-is, i .end-is, length-append (i .bytes) (r .bytes));
+      })
+      count last at s e
 
 -- frames of bytes lead to states of bytes
 pub shows-each : (z : Size) {s : State} {ts : List State} {fs : List ℕ} → Shows z s ts fs → Bytes fs → ByteState z s → Each z ts

@@ -1,7 +1,8 @@
 -- Laws of playing frames and of the check of a reel, by the cases of their definitions.
 use mathlib.Core.Path.{_≡_, refl, sym, ap, ap₂, _∙_, subst}
 use mathlib.Core.List.{List}
-use Prim.Native.Nat.{ℕ, _+_, _-_, _≤_, _<_}
+use Prim.Native.Nat.{ℕ, zero, suc, _+_, _-_, _≤_, _<_}
+use native.Mathlib.Omega.{arith}
 use lib.ListN.{length, replicate}
 use Rattle.words.specs.Words.{part}
 use Rattle.answer.specs.declared.Refusal.{Refusal}
@@ -110,6 +111,31 @@ module _ (layout : Layout) (z : Size) (b : List ℕ) (count last at : ℕ) (s : 
     pub frames-more : (t : State) (from end : ℕ) → oneFrame layout z b at s ≡ ran (To from end) t
         → frames layout z b count last at s ≡ frames layout z b (count - 1) from end t
     frames-more t from end q = frames-step (ran (To from end) t) q
+
+-- a run that was stopped did not come to an end
+pub not-to : {C : Type 0} {e : Refusal} {place last next : ℕ} {s t : State} → ran (Stopped e place) s ≡ ran (To last next) t → C
+not-to l = let k = ap (λ (p : Progress). p .result) l in let z : _≡_ {A = ℕ} 0 1 = cc in absurd (omega arith)
+
+-- Frames that were all played, up to offset to and the state t: what holds there with none left, and one frame earlier with one more, holds where they begin.
+module _ (layout : Layout) (z : Size) (b : List ℕ) (from to : ℕ) (t : State) (P : ℕ → ℕ → State → Type 0) (none : P 0 to t)
+    (more : (count at : ℕ) (s : State) (last next : ℕ) (u : State) → oneFrame layout z b at s ≡ ran (To last next) u → P count next u → P (suc count) at s)
+  where
+    pub frames-played : (count last at : ℕ) (s : State) → frames layout z b count last at s ≡ ran (To from to) t → P count at s
+    frames-played zero last at s e =
+        let l = sym (frames-none layout z b 0 last at s (omega arith)) ∙ e in
+        let k : To last at ≡ To from to = ap (λ (p : Progress). p .result) l in
+        let here : to ≡ at = cc in
+        subst (λ (n : ℕ). P 0 n s) here (subst (P 0 to) (sym (ap (λ (p : Progress). p .after) l)) none)
+    frames-played (suc count) last at s e =
+        by (oneFrame layout z b at s .result) (oneFrame layout z b at s .after) refl (λ last′ next u. frames-played count last′ next u)
+      where
+        by : (r : Ran) (u : State) → oneFrame layout z b at s ≡ ran r u
+            → ((last′ next : ℕ) (v : State) → frames layout z b count last′ next v ≡ ran (To from to) t → P count next v) → P (suc count) at s
+        by (Stopped f place) u o rest = not-to (sym (frames-stopped layout z b (suc count) last at s (omega arith) u f place o) ∙ e)
+        by (To last′ next) u o rest =
+            let n : count ≡ suc count - 1 = omega arith in
+            more count at s last′ next u o
+            (rest last′ next u (ap (λ (k : ℕ). frames layout z b k last′ next u) n ∙ sym (frames-more layout z b (suc count) last at s (omega arith) u last′ next o) ∙ e))
 
 -- frame 1 and more frames
 

@@ -1,7 +1,7 @@
--- Laws of lent pairs, and of an output.
-use mathlib.Core.Path.{_≡_, sym, ap₂, _∙_}
+-- Laws of lent pairs, of an output, and of calls that are done.
+use mathlib.Core.Path.{_≡_, refl, sym, ap, ap₂, _∙_}
 use mathlib.Core.List.{List, [], _∷_}
-use mathlib.Core.Bool.{true}
+use mathlib.Core.Bool.{Bool, true, false, cond}
 use Prim.Native.Nat.{ℕ, _≤_, _<_}
 use native.Mathlib.Omega.{arith}
 use borrow.Author.Tests.{le-leb, lt-leb, leb-true}
@@ -10,7 +10,7 @@ use lib.Seq.{length-take-le}
 use lib.Dec.{leb}
 use Rattle.words.specs.Writes.{put}
 use Rattle.words.proofs.Tests.{both-true}
-use Rattle.answer.specs.Answer.{done}
+use Rattle.answer.specs.Answer.{Said, done, refused}
 use Rattle.answer.specs.declared.Refusal.the-variants.{NoRoom}
 use Rattle.format.specs.Limits.{area, sizeOk}
 use Rattle.format.specs.declared.Size.{Size}
@@ -46,3 +46,12 @@ module _ (b d : List ℕ) (n : ℕ) (l : length b ≡ n) where
   pub fitted-whole : (e : List ℕ) → n ≤ length d → e ≡ put d 0 b → leaves (done (n ∷ [])) (lentBytes e) ≡ fitted b d
   fitted-whole e h p =
       ap₂ (λ (x : ℕ) (y : List ℕ). leaves (done (x ∷ [])) (lentBytes y)) (sym l) p ∙ rw (le-leb (length b) (length d) (omega arith))
+
+-- done
+
+-- A call that gives o, which is x where a test is passed and else a refusal y: if it is done, the test was passed and o is x.
+-- says: what is said by that which a call gives, an outcome or more beside one
+module _ {X : Type 0} (says : X → Said) where
+  pub passed : (t : Bool) {x y o : X} {ns : List ℕ} {number place : ℕ} → cond t x y ≡ o → says o ≡ done ns → says y ≡ refused number place → (t ≡ true) × (x ≡ o)
+  passed true e d r = (refl, e)
+  passed false e d r = let k = ap says e in let z : _≡_ {A = ℕ} 0 1 = cc in absurd (omega arith)
