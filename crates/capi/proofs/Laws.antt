@@ -5,8 +5,10 @@ use Rattle.answer.specs.Answer.{Said}
 use Rattle.state.specs.Outcome.{Memory, Outcome, leaves}
 use Rattle.reel_build.specs.declared.Reel.{Reel}
 use Rattle.reel_build.specs.Record.{ReelOutcome, builds}
+use Rattle.board_player.specs.declared.Player.{Player}
+use Rattle.board_player.specs.Player.{PlayerOutcome, plays}
 use Rattle.capi.specs.declared.Record.{Record}
-use Rattle.capi.specs.Capi.{Told, Held, lengthOf, HeldLength, recordOf, HeldReel}
+use Rattle.capi.specs.Capi.{Told, Held, lengthOf, eventOf, HeldLength, recordOf, HeldReel, HeldPlayer, HeldTick}
 
 module _ {number place : ℕ} {s : Said} {m : Memory} (t : Told number place s) where
   pub held : {o : Outcome} → leaves s m ≡ o → Held number place m o
@@ -18,3 +20,9 @@ module _ {number place : ℕ} {s : Said} {m : Memory} (t : Told number place s) 
   pub held-reel : {o : ReelOutcome} {r : Reel} {after handed : Record} → builds r (leaves s m) ≡ o → after ≡ recordOf s r handed → HeldReel number place after handed m o
   held-reel {o} {r} {after} {handed} e l =
       record { held = held (ap (λ (y : ReelOutcome). y .left) e); record-is = l ∙ ap (λ (y : ReelOutcome). recordOf (y .left .said) (y .reel) handed) e }
+
+  pub held-player : {o : PlayerOutcome} {p : Player} → plays p (leaves s m) ≡ o → HeldPlayer number place p m o
+  held-player e = record { held = held (ap (λ (y : PlayerOutcome). y .left) e); player-is = ap (λ (y : PlayerOutcome). y .player) e }
+
+  pub held-tick : {o : PlayerOutcome} {p : Player} {n : ℕ} → plays p (leaves s m) ≡ o → n ≡ eventOf s → HeldTick number place n p m o
+  held-tick e l = record { held = held-player e; event-is = l ∙ ap (λ (y : PlayerOutcome). eventOf (y .left .said)) e }

@@ -13,6 +13,8 @@ use Rattle.reel_header.specs.declared.Head.{Head}
 use Rattle.reel_header.specs.declared.Head.the-variants as head
 use Rattle.reel_build.specs.declared.Reel.{Reel}
 use Rattle.reel_build.specs.Record.{ReelOutcome}
+use Rattle.board_player.specs.declared.Player.{Player}
+use Rattle.board_player.specs.Player.{PlayerOutcome}
 use Rattle.capi.specs.declared.Record.{Record}
 use Rattle.capi.specs.declared.ReelHeader.{ReelHeader}
 use Rattle.capi.specs.declared.FrameSpan.{FrameSpan}
@@ -80,3 +82,19 @@ headerFor (head.Reel width height frames size speed) =
 abbrev pub spanFor : Next → FrameSpan
 spanFor (next.Fault e place) = record { number = number e; place = place; from = 0; end = 0 }
 spanFor (next.Frame from end) = record { number = 0; place = 0; from = from; end = end }
+
+-- the event that a tick tells, 0 where refused
+abbrev pub eventOf : Said → ℕ
+eventOf (done []) = 0
+eventOf (done (n ∷ ns)) = n
+eventOf (refused n place) = 0
+
+-- what is held after a player was started: its record beside number, place and the lent memory
+pub record HeldPlayer (number place : ℕ) (after : Player) (m : Memory) (o : PlayerOutcome) : Type 0 where
+  pub held : Held number place m (o .left)
+  pub player-is : after ≡ o .player
+
+-- the same of a tick, with its event
+pub record HeldTick (number place event : ℕ) (after : Player) (m : Memory) (o : PlayerOutcome) : Type 0 where
+  pub held : HeldPlayer number place after m o
+  pub event-is : event ≡ eventOf (o .left .said)

@@ -15,7 +15,13 @@ ghost use Rattle.reel_build.specs.Building.{openReel, addFrame};
 ghost use Rattle.reel_close.specs.Closing.{closeReel};
 ghost use Rattle.reel_trailer.specs.Trailer.{checkTrailer, writeTrailer};
 ghost use Rattle.list_chunks.specs.Listing.{list};
-ghost use Rattle.capi.specs.Capi.{headerFor, spanFor, lengthOf, nothing, reelFrom, recordFor, recordOf, Told, Held, HeldLength, HeldReel};
+ghost use Rattle.board_clock.specs.Replay.{replayed};
+ghost use Rattle.board_player.specs.Player.{toldTick};
+ghost use Rattle.board_player.specs.Ticking.{tick};
+ghost use Rattle.board_player.specs.Starting.{startPlayer};
+ghost use Rattle.capi.specs.Capi.{headerFor, spanFor, lengthOf, eventOf, nothing, reelFrom, recordFor, recordOf, Told, Held, HeldLength, HeldReel, HeldPlayer, HeldTick};
+use board_player::Player;
+use board_player::Ticked;
 use chunks::Next;
 use format::Size;
 use reel_build::Built;
@@ -74,6 +80,22 @@ pub struct FrameSpan {
     pub place: u64,
     pub from: u64,
     pub end: u64,
+}
+
+// An answer with the player that was started: all its fields are 0 where refused.
+#[repr(C)]
+pub struct PlayerAnswer {
+    pub number: u32,
+    pub place: u64,
+    pub player: Player,
+}
+
+// A tick's answer. Event 0: nothing was due, 1: a frame was drawn, 2: the clock was set back; 0 where refused.
+#[repr(C)]
+pub struct TickAnswer {
+    pub number: u32,
+    pub place: u64,
+    pub event: u32,
 }
 
 fn answer_for_c(a: answer::Answer) -> Answered
@@ -400,4 +422,93 @@ pub extern "C" fn flic_next_frame(bytes: &[u8], at: usize) -> FrameSpan
             end: end as u64,
         },
     }
+}
+
+// Starts a player on a whole reel.
+#[no_mangle]
+pub extern "C" fn flic_start_player(
+    bytes: &[u8],
+    reading: u32,
+    first_picture: &mut [u8],
+    first_palette: &mut [u8],
+    second_picture: &mut [u8],
+    second_palette: &mut [u8],
+) -> PlayerAnswer
+    ensures { λ r. ⌜ HeldPlayer (r .number) (r .place) (r .player) (lentPairs (state (now («first_picture» .exit)) (now («first_palette» .exit))) (state (now («second_picture» .exit)) (now («second_palette» .exit))))
+        (startPlayer (now (bytes .entry)) reading (state (now («first_picture» .entry)) (now («first_palette» .entry))) (state (now («second_picture» .entry)) (now («second_palette» .entry)))) ⌝ }
+{
+    let s = board_player::start_player(
+        bytes,
+        reading,
+        first_picture,
+        first_palette,
+        second_picture,
+        second_palette,
+    );
+    let answer = s.answer;
+    let player = s.player;
+    let a = answer_for_c(answer);
+    PlayerAnswer {
+        number: a.number,
+        place: a.place,
+        player,
+    }
+}
+
+fn tick_for_c(a: Ticked) -> TickAnswer
+    ensures { λ r. ⌜ Told (r .number) (r .place) (toldTick a) × (r .event ≡ eventOf (toldTick a)) ⌝ }
+{
+    match a {
+        Ticked::Nothing => TickAnswer {
+            number: 0,
+            place: 0,
+            event: 0,
+        },
+        Ticked::Drawn => TickAnswer {
+            number: 0,
+            place: 0,
+            event: 1,
+        },
+        Ticked::SetBack => TickAnswer {
+            number: 0,
+            place: 0,
+            event: 2,
+        },
+        Ticked::Refused(e, place) => TickAnswer {
+            number: answer::number_of(e),
+            place: place as u64,
+            event: 0,
+        },
+    }
+}
+
+// One tick of a player, whose record is changed where it lies.
+#[no_mangle]
+pub extern "C" fn flic_tick(
+    player: &mut Player,
+    bytes: &[u8],
+    reading: u32,
+    picture: &mut [u8],
+    palette: &mut [u8],
+) -> TickAnswer
+    ensures { λ r. ⌜ HeldTick (r .number) (r .place) (r .event) (now (player .exit)) (lentPair (state (now (picture .exit)) (now (palette .exit))))
+        (tick (now (player .entry)) (now (bytes .entry)) reading (state (now (picture .entry)) (now (palette .entry)))) ⌝ }
+{
+    let a = board_player::tick(player, bytes, reading, picture, palette);
+    tick_for_c(a)
+}
+
+// Replays recorded readings.
+#[no_mangle]
+pub extern "C" fn flic_replay(
+    speed: u32,
+    frames: usize,
+    start: u32,
+    readings: &[u32],
+    numbers: &mut [u32],
+) -> Delivered
+    ensures { λ r. ⌜ HeldLength (r .number) (r .place) (r .length) (lentBytes (now (numbers .exit))) (replayed speed frames start (now (readings .entry)) (now (numbers .entry))) ⌝ }
+{
+    let a = board_clock::replay(speed, frames, start, readings, numbers);
+    written_for_c(a)
 }

@@ -3,32 +3,27 @@
 -- a lap is a function of the state that it begins with, and that is frame 1's each time.
 use mathlib.Core.Path.{_≡_, refl, sym, ap, ap₂, _∙_, subst}
 use mathlib.Core.List.{List, [], _∷_, _++_, append-nil}
-use mathlib.Core.Bool.{Bool, true, false, _&&_, cond}
-use Prim.Native.Nat.{ℕ, zero, suc, _*_, _≤_}
+use mathlib.Core.Bool.{true}
+use Prim.Native.Nat.{ℕ, zero, suc, _≤_}
 use native.Mathlib.Omega.{arith}
 use native.Mathlib.Nat.{not-suc-le-zero}
 use lib.ListN.{length, take, drop, drop-of-length-le, length-replicate}
 use lib.Seq.{take-all}
 use Rattle.words.specs.Words.{part, same}
 use Rattle.words.specs.Writes.{Write, applied}
-use Rattle.words.proofs.Laws.{same-eq}
-use Rattle.answer.specs.declared.Refusal.the-variants.{BadRing}
 use Rattle.answer.specs.declared.Answer.{Answer}
 use Rattle.answer.specs.declared.Answer.the-variants.{Done, Refused}
-use Rattle.answer.proofs.Laws.{told-injective}
-use Rattle.words.proofs.Tests.{both-true}
 use Rattle.read_frame.specs.Frame.{frame}
-use Rattle.state.proofs.Laws.{enough-is, passed}
+use Rattle.state.proofs.Laws.{enough-is}
 use Rattle.reel_header.specs.Head.{headOf}
 use Rattle.chunks.specs.declared.Layout.the-variants.{Loose}
 use Rattle.chunks.specs.Spans.{HEADER-BYTES, Spans, frameSpans, nextAt}
 use Rattle.chunks.proofs.Spans.{afterNext, frameSpans-next, frameSpans-none}
-use Rattle.reel_header.specs.declared.Head.{Head}
 use Rattle.reel_header.specs.declared.Head.the-variants as head
 use Rattle.chunks.specs.declared.Next.{Next}
 use Rattle.chunks.specs.declared.Next.the-variants.{Fault, Frame}
 use Rattle.reel_header.proofs.Laws.{head-in}
-use Rattle.reel_play.specs.Play.{Progress, ran, ranBy, met, oneFrame, frames, Shown, shown, shownAfter, playAll}
+use Rattle.reel_play.specs.Play.{Progress, ran, ranBy, met, oneFrame, frames, shownAfter, playAll}
 use Rattle.reel_play.proofs.Laws.{not-to, frames-played}
 use Rattle.reel_play.specs.declared.Ran.{Ran}
 use Rattle.reel_play.specs.declared.Ran.the-variants.{Stopped, To}
@@ -36,13 +31,14 @@ use Rattle.reel_laws.specs.Laps.{lastOf, times, statesBy, statesOf, stat
 use Rattle.format.specs.Limits.{area, sizeOf, sizeOk, Sized}
 use Rattle.format.specs.declared.Size.{Size}
 use Rattle.format.proofs.Laws.{size-in}
-use Rattle.answer.specs.Answer.{Said, done, told}
-use Rattle.state.specs.State.{State, state, blank, enough, refilled, Exact}
+use Rattle.answer.specs.Answer.{done, told}
+use Rattle.state.specs.State.{State, state, blank, refilled, Exact}
 use Rattle.state.specs.Outcome.{Outcome, lentPair, lentPairs, leaves}
 use Rattle.read_frame.specs.Reading.{played, readFrame}
 use Rattle.read_frame.proofs.Laws.{read-by}
 use Rattle.read_frame.proofs.Sound.{played-exact}
-use Rattle.reel_check.specs.Check.{ringed, ringAnswer, afterHead, checkReel}
+use Rattle.reel_check.specs.Check.{checkReel}
+use Rattle.reel_check.proofs.Passed.{Came, check-passed}
 
 -- lists of states
 
@@ -161,27 +157,6 @@ module _ (z : Size) (ok : sizeOk (z .width) (z .height) ≡ true) where
         })
         count last at s e i
 
--- where the answer is done, playing came to its end in frame 1's state
-
-same-states : (s t : State) → s .picture ≡ t .picture → s .palette ≡ t .palette → s ≡ t
-same-states s t e f = ap₂ (λ (p q : List ℕ). state p q) e f
-
-record Came (x : Shown) : Type 0 where
-  pub ring : ℕ
-  pub end : ℕ
-  pub to : x .result ≡ To ring end
-  pub same : x .last ≡ x .one
-
-came : (r : Ran) (s t : State) → ringed r s t ≡ Done → Came (shown r s t)
-came (Stopped r p) s t e = let z : _≡_ {A = ℕ} 0 1 = cc in absurd (omega arith)
-came (To ring end) s t e =
-    let f = both-true (same (s .picture) (t .picture)) (same (s .palette) (t .palette)) (by _ e) in
-    record { ring = ring; end = end; to = refl; same = same-states s t (same-eq (s .picture) (t .picture) (f .0)) (same-eq (s .palette) (t .palette) (f .1)) }
-  where
-    by : (c : Bool) → cond c Done (Refused BadRing ring) ≡ Done → c ≡ true
-    by true e = refl
-    by false e = cc
-
 -- every lap
 
 laps-same : (z : Size) (b : List ℕ) (count at : ℕ) (s : State) (ts : List State) → states Loose z b count at s ≡ ts → lastOf s ts ≡ s
@@ -248,23 +223,11 @@ module _ (b : List ℕ) (first second : State) where
     pub pairs : o
         ≡ leaves (told Done) (lentPairs (refilled (area (leads .picture)) (leads .one) first) (refilled (area (leads .picture)) (leads .one) second))
 
-  accepted-by : (x : Head) → headOf b ≡ x → afterHead b x first second .said ≡ done [] → Accepted (afterHead b x first second)
-  accepted-by (head.Fault r) is e = let z : _≡_ {A = ℕ} 0 1 = cc in absurd (omega arith)
-  accepted-by (head.Reel w h count size speed) is e =
-      let said : Outcome → Said = λ o. o .said in
-      let x = playAll Loose count (sizeOf w h) (take size b) in
-      let k = passed said (enough (w * h) first && enough (w * h) second) {o = afterHead b (head.Reel w h count size speed) first second} refl e refl in
-      let a = told-injective (ringAnswer x) Done (ap said (k .1) ∙ e) in
-      let c = came (x .result) (x .last) (x .one) a in
-      let l = came-leads b (sizeOf w h) count size speed is c in
+  pub accepted-leads-back : checkReel b first second .said ≡ done [] → Accepted (checkReel b first second)
+  accepted-leads-back e =
+      let c = check-passed b first second e in
+      let l = came-leads b (sizeOf (c .width) (c .height)) (c .count) (c .size) (c .speed) (c .header) (c .played) in
       record {
         leads = l .leads;
-        pairs =
-            sym (k .1)
-            ∙ ap₂ (λ (u : Answer) (s : State). leaves (told u) (lentPairs (refilled (w * h) s first) (refilled (w * h) (x .one) second))) a (c .same)
-            ∙ ap₂ (λ (n : ℕ) (s : State). leaves (told Done) (lentPairs (refilled n s first) (refilled n s second))) (sym (l .pixels)) (sym (l .shows));
+        pairs = c .pairs ∙ ap₂ (λ (n : ℕ) (s : State). leaves (told Done) (lentPairs (refilled n s first) (refilled n s second))) (sym (l .pixels)) (sym (l .shows));
       }
-
-  pub accepted-leads-back : checkReel b first second .said ≡ done [] → Accepted (checkReel b first second)
-  unfolding checkReel
-  accepted-leads-back e = accepted-by (headOf b) refl e

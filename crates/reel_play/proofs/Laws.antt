@@ -61,6 +61,19 @@ module _ (layout : Layout) (z : Size) (b : List ℕ) (at : ℕ) (s : State) wher
   pub one-ran : (r x : Ran) (t : State) → ran r t ≡ oneFrame layout z b at s → r ≡ x → oneFrame layout z b at s ≡ ran x t
   one-ran r x t e q = sym e ∙ ap (λ (y : Ran). ran y t) q
 
+  -- a refused frame leaves the state as it was
+  pub one-kept : (e : Refusal) (place : ℕ) (t : State) → oneFrame layout z b at s ≡ ran (Stopped e place) t → t ≡ s
+  unfolding oneFrame
+  one-kept e place t q = go (nextAt layout b at) q
+    where
+      by-answer : (from end : ℕ) (a : Answer) → ranBy from end (frame z (part b from end)) a s ≡ ran (Stopped e place) t → t ≡ s
+      by-answer from end Done l = let k = ap (λ (p : Progress). p .result) l in let i : _≡_ {A = ℕ} 0 1 = cc in absurd (omega arith)
+      by-answer from end (Refused r p) l = sym (ap (λ (p : Progress). p .after) l)
+
+      go : (x : Next) → met z b x s ≡ ran (Stopped e place) t → t ≡ s
+      go (Fault r p) l = sym (ap (λ (p : Progress). p .after) l)
+      go (Frame from end) l = by-answer from end (frame z (part b from end) .answer) l
+
   pub one-in : at ≤ length b → (r : Ran) → oneFrame layout z b at s .result ≡ r → RanIn b at r
   unfolding oneFrame
   one-in i r q = subst (RanIn b at) q (go (nextAt layout b at) (next-in layout b at _ refl))
@@ -143,6 +156,11 @@ module _ (layout : Layout) (more : ℕ) (z : Size) (b : List ℕ) where
   all-step : (x : Progress) → oneFrame layout z b HEADER-BYTES (blank (area z)) ≡ x → playAll layout more z b ≡ shownAfter x (λ last at s. frames layout z b more last at s)
   unfolding playAll
   all-step x q = ap (λ (y : Progress). shownAfter y (λ last at s. frames layout z b more last at s)) q
+
+  -- the state after frame 1
+  pub all-first : playAll layout more z b .one ≡ oneFrame layout z b HEADER-BYTES (blank (area z)) .after
+  unfolding playAll
+  all-first = refl
 
   pub all-stopped : (t : State) (e : Refusal) (place : ℕ) → oneFrame layout z b HEADER-BYTES (blank (area z)) ≡ ran (Stopped e place) t
       → playAll layout more z b ≡ shown (Stopped e place) t t

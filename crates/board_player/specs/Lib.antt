@@ -1,0 +1,3 @@
+pub mod Player
+pub mod Ticking
+pub mod Starting
