@@ -5,7 +5,7 @@ use mathlib.Core.Path.{_≡_}
 use lib.ListN.{getD}
 use Rattle.format.specs.Limits.{area}
 use Rattle.answer.specs.Answer.{Said, done}
-use Rattle.state.specs.State.{State, blank, refilled}
+use Rattle.state.specs.State.{State, refilled}
 use Rattle.state.specs.Outcome.{fitted}
 use Rattle.reel_laws.specs.Laps.{LeadsBack}
 use Rattle.board_clock.specs.Replay.{replayed}

@@ -1,5 +1,5 @@
 -- What a check has found that answers done: a reel's header, every frame accepted, and the ring in frame 1's state, which both pairs hold then.
-use mathlib.Core.Path.{_≡_, refl, ap₂}
+use mathlib.Core.Path.{_≡_, refl, sym, ap, ap₂, _∙_}
 use mathlib.Core.List.{List, []}
 use mathlib.Core.Bool.{Bool, true, false, _&&_, cond}
 use Prim.Native.Nat.{ℕ, _*_}
