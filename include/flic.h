@@ -178,6 +178,81 @@ typedef struct {
  * Further laps begin with frame 2, since the ring, the last of them, shows frame 1 again. */
 flic_span flic_next_frame(const uint8_t *bytes, size_t bytes_len, uint64_t at);
 
+/* A player that keeps time: a reel played after a clock of milliseconds, a counter of 32 bits that rolls over after 49
+ * days. The record is changed in place by each tick. Keep it as it came: of what was altered, what doesn't fit the
+ * bytes is refused at the next tick that draws. The speed alone may be set anew at any time.
+ *
+ * number: of the frame that shows, from 1; the ring is frames + 1. place: where the next frame is looked for, the end
+ * of the frame that shows, or of frame 1 if that is the ring. first_end: where frame 1 ends. speed: for how many
+ * milliseconds a frame shows, 0 being one a tick, and half the range (2^31) or more for ever. last: the last draw
+ * time. */
+typedef struct {
+    uint64_t width, height, frames, number, place, first_end;
+    uint32_t speed, last;
+} flic_player;
+
+/* number 0: done, with the player. A refusal has a player that is all 0. */
+typedef struct {
+    uint32_t number;
+    uint64_t place;
+    flic_player player;
+} flic_player_answer;
+
+/* Starts a player on a whole reel: checks it as flic_check_reel does in the two working pairs, with the same refusals,
+ * and what these leave in the pairs. Done: both pairs show frame 1, drawn at the reading now. Ticks go on with one
+ * pair; the other isn't needed any more. */
+flic_player_answer flic_start_player(const uint8_t *bytes, size_t bytes_len, uint32_t now,
+                                     uint8_t *first_picture, size_t first_picture_len,
+                                     uint8_t *first_palette, size_t first_palette_len,
+                                     uint8_t *second_picture, size_t second_picture_len,
+                                     uint8_t *second_palette, size_t second_palette_len);
+
+/* number 0: done. event 0: nothing was due, 1: a frame was drawn, 2: the clock was set back. A refusal has event 0,
+ * and leaves the record, the picture and the palette as they were. */
+typedef struct {
+    uint32_t number;
+    uint64_t place;
+    uint32_t event;
+} flic_ticked;
+
+/* One tick, at the clock's reading now: the bytes that the player was started on, the picture and palette that show.
+ *
+ * What counts is now - last, taken round the roll-over (modulo 2^32). Half the range (2^31) or more: the clock was set
+ * back; nothing is drawn, and last becomes now. Less than the speed: nothing is due. Else one frame is drawn, and last
+ * moves on by the speed, so that a late tick shifts no later frame: the next ticks catch up, a frame each. After the
+ * last frame comes the ring, which shows frame 1 again, and after the ring frame 2 (the ring again in a reel of one
+ * frame).
+ *
+ * Only a tick that draws can be refused: 2 for the record's size, 1, 4 with place 0 if the record's place lies past
+ * the bytes or its number isn't 1 to frames + 1, then what flic_check_reel gives from that place on through the frame
+ * drawn, the end of the bytes standing for the file's size. No ring is compared. A player whose record, bytes, picture
+ * and palette are handed on as they came is never refused.
+ *
+ * A board, where milliseconds() reads its clock, and show() puts a picture on its panel:
+ *
+ *     flic_player_answer a = flic_start_player(file, file_len, milliseconds(), picture, sizeof picture, palette, 768,
+ *                                              second, sizeof second, second_palette, 768);
+ *     flic_player player = a.player;
+ *     flic_ticked t = {a.number, a.place, 1};
+ *     while (t.number == 0) {
+ *         if (t.event == 1) show(picture, palette, player.width, player.height);
+ *         t = flic_tick(&player, file, file_len, milliseconds(), picture, sizeof picture, palette, 768);
+ *     }
+ *     printf("refused %u at offset %llu\n", t.number, (unsigned long long)t.place);
+ *
+ * examples/board.c is such a board, in a window. */
+flic_ticked flic_tick(flic_player *player, const uint8_t *bytes, size_t bytes_len, uint32_t now,
+                      uint8_t *picture, size_t picture_len,
+                      uint8_t *palette, size_t palette_len);
+
+/* Replays recorded readings: of each, in its order, the number of the frame that shows after it, as a player would
+ * have it that has this speed and so many frames, was started at the reading start, and met no refusal. Lengths count
+ * words. Done gives as many numbers as there are readings; words behind them stay as they were. Refused, with place 0:
+ * 14 for frames not 1 to 4,000, then 3 for fewer words than readings. */
+flic_written flic_replay(uint32_t speed, uint64_t frames, uint32_t start,
+                         const uint32_t *readings, size_t readings_len,
+                         uint32_t *numbers, size_t numbers_len);
+
 #ifdef __cplusplus
 }
 #endif
