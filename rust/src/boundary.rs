@@ -4,7 +4,7 @@ use crate::refusal::{Refusal, Refused, Result};
 use flic_boundary as codec;
 use std::ops::Range;
 
-pub use flic_boundary::{Pair, PairMut, Reel as Record, FRAME_MOST, LIST_MOST};
+pub use flic_boundary::{Pair, PairMut, Player, Reel as Record, FRAME_MOST, LIST_MOST};
 
 fn result(number: u32, place: u64) -> Result<()> {
     if number == 0 {
@@ -84,6 +84,21 @@ pub fn next_frame(bytes: &[u8], at: usize) -> Result<Range<usize>> {
     result(span.number, span.place).map(|()| span.from as usize..span.end as usize)
 }
 
+pub fn start_player(bytes: &[u8], now: u32, first: PairMut, second: PairMut) -> Result<Player> {
+    let answer = codec::start_player(bytes, now, first, second);
+    result(answer.number, answer.place).map(|()| answer.player)
+}
+
+/// Gives the number of what the tick did.
+pub fn tick(player: &mut Player, bytes: &[u8], now: u32, shown: PairMut) -> Result<u32> {
+    let ticked = codec::tick(player, bytes, now, shown);
+    result(ticked.number, ticked.place).map(|()| ticked.event)
+}
+
+pub fn replay(speed: u32, frames: usize, start: u32, readings: &[u32], numbers: &mut [u32]) -> Result<usize> {
+    length(codec::replay(speed, frames as u64, start, readings, numbers))
+}
+
 #[cfg(test)]
 mod tests {
     use super::*;
@@ -97,5 +112,72 @@ mod tests {
         let pair = PairMut { picture: &mut picture, palette: &mut palette };
         assert_eq!(read_frame(&[], 0, 2, pair).unwrap_err().refusal, Refusal::BadSize);
         assert_eq!((picture, palette), ([7; 5], [7; 768]));
+    }
+
+    /// A reel of two frames, 1 by 1, 50 milliseconds each, started at 0.
+    fn started() -> (Vec<u8>, Player) {
+        let size = crate::Size::new(1, 1).expect("a size that is taken");
+        let mut reel = crate::Reel::open(size, 50).expect("a reel");
+        let mut state = crate::State::blank(size);
+        for pixel in [1, 2] {
+            state.picture.pixels_mut()[0] = pixel;
+            reel.add(&state).expect("a frame");
+        }
+        let bytes = reel.close().expect("a file");
+        let pair = || (vec![0], vec![0; 768]);
+        let ((mut picture, mut palette), (mut second, mut colours)) = (pair(), pair());
+        let first = PairMut { picture: &mut picture, palette: &mut palette };
+        let player = start_player(&bytes, 0, first, PairMut { picture: &mut second, palette: &mut colours });
+        assert_eq!((picture, second), (vec![1], vec![1]));
+        (bytes, player.expect("a player"))
+    }
+
+    /// What a tick at this reading gives of an altered record and so many pixels; a refusal must change nothing.
+    fn altered(now: u32, pixels: usize, alter: fn(&mut Player)) -> (Result<u32>, Player) {
+        let (bytes, mut player) = started();
+        alter(&mut player);
+        let (before, mut picture, mut palette) = (player, vec![1; pixels], vec![9; 768]);
+        let event = tick(&mut player, &bytes, now, PairMut { picture: &mut picture, palette: &mut palette });
+        if event.is_err() {
+            assert_eq!((player, picture, palette), (before, vec![1; pixels], vec![9; 768]));
+        }
+        (event, player)
+    }
+
+    #[test]
+    fn a_tick_that_draws_refuses_a_record_that_does_not_fit() {
+        let refused = |pixels, alter| altered(50, pixels, alter).0.map_err(|why| (why.refusal.number(), why.place));
+        assert_eq!(refused(1, |_| ()), Ok(1));
+        assert_eq!(refused(0, |player| player.width = 0), Err((2, 0)));
+        assert_eq!(refused(1, |player| player.height = 201), Err((2, 0)));
+        assert_eq!(refused(0, |player| player.number = 0), Err((1, 0)));
+        assert_eq!(refused(1, |player| player.place = u64::MAX), Err((4, 0)));
+        assert_eq!(refused(1, |player| player.number = 0), Err((4, 0)));
+        assert_eq!(refused(1, |player| player.number = 4), Err((4, 0)));
+        assert_eq!(refused(1, |player| player.number = 3), Ok(1));
+        let end = started().0.len() as u64;
+        assert_eq!(refused(1, |player| player.place = started().0.len() as u64), Err((15, end)));
+        // The file header, taken for a chunk, has the size of the file.
+        assert_eq!(refused(1, |player| player.place = 0), Err((15, end)));
+    }
+
+    #[test]
+    fn a_tick_that_draws_nothing_makes_no_check() {
+        let alter = |player: &mut Player| (player.width, player.number, player.place) = (0, 0, u64::MAX);
+        let (event, player) = altered(49, 0, alter);
+        assert_eq!((event, player.last), (Ok(0), 0));
+        let (event, player) = altered(u32::MAX, 0, alter);
+        assert_eq!((event, player.last), (Ok(2), u32::MAX));
+    }
+
+    #[test]
+    fn a_replay_without_room_is_refused_after_its_frames() {
+        let mut numbers = [7; 3];
+        let number = |result: Result<usize>| result.map_err(|why| why.refusal.number());
+        assert_eq!(number(replay(1, 0, 0, &[1, 2, 3, 4], &mut numbers)), Err(14));
+        assert_eq!(number(replay(1, 2, 0, &[1, 2, 3, 4], &mut numbers)), Err(3));
+        assert_eq!(numbers, [7; 3]);
+        assert_eq!(number(replay(1, 2, 0, &[1, 1], &mut numbers)), Ok(2));
+        assert_eq!(numbers, [2, 2, 7]);
     }
 }

@@ -1,6 +1,7 @@
 //! Reads, writes, checks and builds FLC animations (Autodesk Animator Pro) with a codec whose every function is proved.
 //!
-//! A [`Reel`] takes pictures and gives a file; a [`CheckedReel`] is a file that was checked, and plays it. One frame is
+//! A [`Reel`] takes pictures and gives a file; a [`CheckedReel`] is a file that was checked, and gives its frames; a
+//! [`Player`] plays it after a clock, and [`replay`] says what recorded readings of that clock showed. One frame is
 //! read, written and rewritten by [`read_frame`], [`write_frame`] and [`rewrite_frame`]. What can't be done is
 //! [`Refused`], with its reason and place. No byte of a file is interpreted here: what a header says and where frames
 //! lie, [`Header::read`] and [`next_frame`] ask the codec.
@@ -38,6 +39,7 @@ mod frame;
 mod header;
 mod listing;
 mod place;
+mod player;
 mod reel;
 mod refusal;
 mod state;
@@ -49,6 +51,7 @@ pub use frame::{read_frame, rewrite_frame, write_frame, Rewritten};
 pub use header::{Header, FILE_HEADER};
 pub use listing::{list, LISTED_MOST};
 pub use place::{part_of, Part};
+pub use player::{replay, Event, Player};
 pub use reel::{Reel, MOST_FRAMES};
 pub use refusal::{Refusal, Refused, Result};
 pub use state::{Palette, Picture, Size, State, PALETTE};

@@ -68,6 +68,38 @@ pub struct Span {
     pub end: u64,
 }
 
+/// The record of a player, as it goes from tick to tick.
+#[repr(C)]
+#[derive(Clone, Copy, Debug, Default, PartialEq, Eq)]
+pub struct Player {
+    pub width: u64,
+    pub height: u64,
+    pub frames: u64,
+    pub number: u64,
+    pub place: u64,
+    pub first_end: u64,
+    pub speed: u32,
+    pub last: u32,
+}
+
+/// An answer, and the player that was started.
+#[repr(C)]
+#[derive(Clone, Copy, Debug, Default, PartialEq, Eq)]
+pub struct PlayerAnswer {
+    pub number: u32,
+    pub place: u64,
+    pub player: Player,
+}
+
+/// An answer, and what a tick did: 0 nothing was due, 1 a frame was drawn, 2 the clock was set back.
+#[repr(C)]
+#[derive(Clone, Copy, Debug, Default, PartialEq, Eq)]
+pub struct Ticked {
+    pub number: u32,
+    pub place: u64,
+    pub event: u32,
+}
+
 /// A lent picture and palette that are only looked at.
 #[derive(Clone, Copy)]
 pub struct Pair<'a> {
@@ -177,6 +209,41 @@ extern "C" {
     fn flic_read_header(bytes: *const u8, bytes_len: usize) -> Header;
 
     fn flic_next_frame(bytes: *const u8, bytes_len: usize, at: u64) -> Span;
+
+    fn flic_start_player(
+        bytes: *const u8,
+        bytes_len: usize,
+        now: u32,
+        first_picture: *mut u8,
+        first_picture_len: usize,
+        first_palette: *mut u8,
+        first_palette_len: usize,
+        second_picture: *mut u8,
+        second_picture_len: usize,
+        second_palette: *mut u8,
+        second_palette_len: usize,
+    ) -> PlayerAnswer;
+
+    fn flic_tick(
+        player: *mut Player,
+        bytes: *const u8,
+        bytes_len: usize,
+        now: u32,
+        picture: *mut u8,
+        picture_len: usize,
+        palette: *mut u8,
+        palette_len: usize,
+    ) -> Ticked;
+
+    fn flic_replay(
+        speed: u32,
+        frames: u64,
+        start: u32,
+        readings: *const u32,
+        readings_len: usize,
+        numbers: *mut u32,
+        numbers_len: usize,
+    ) -> Written;
 }
 
 /// The slice itself, or a copy where it overlaps one of the others: no two lent slices of a call may.
@@ -331,6 +398,43 @@ pub fn read_header(bytes: &[u8]) -> Header {
 
 pub fn next_frame(bytes: &[u8], at: u64) -> Span {
     unsafe { flic_next_frame(bytes.as_ptr(), bytes.len(), at) }
+}
+
+pub fn start_player(bytes: &[u8], now: u32, first: PairMut, second: PairMut) -> PlayerAnswer {
+    unsafe {
+        flic_start_player(
+            bytes.as_ptr(),
+            bytes.len(),
+            now,
+            first.picture.as_mut_ptr(),
+            first.picture.len(),
+            first.palette.as_mut_ptr(),
+            first.palette.len(),
+            second.picture.as_mut_ptr(),
+            second.picture.len(),
+            second.palette.as_mut_ptr(),
+            second.palette.len(),
+        )
+    }
+}
+
+pub fn tick(player: &mut Player, bytes: &[u8], now: u32, shown: PairMut) -> Ticked {
+    unsafe {
+        flic_tick(
+            player,
+            bytes.as_ptr(),
+            bytes.len(),
+            now,
+            shown.picture.as_mut_ptr(),
+            shown.picture.len(),
+            shown.palette.as_mut_ptr(),
+            shown.palette.len(),
+        )
+    }
+}
+
+pub fn replay(speed: u32, frames: u64, start: u32, readings: &[u32], numbers: &mut [u32]) -> Written {
+    unsafe { flic_replay(speed, frames, start, readings.as_ptr(), readings.len(), numbers.as_mut_ptr(), numbers.len()) }
 }
 
 #[cfg(test)]
