@@ -5,6 +5,8 @@ mod check;
 mod frames;
 mod info;
 mod list;
+mod play;
+mod replay;
 mod rewrite;
 mod trailer;
 
@@ -21,8 +23,17 @@ pub struct Command {
     pub run: fn(Arguments) -> Outcome,
 }
 
-pub const ALL: [Command; 7] =
-    [check::COMMAND, info::COMMAND, list::COMMAND, frames::COMMAND, build::COMMAND, rewrite::COMMAND, trailer::COMMAND];
+pub const ALL: [Command; 9] = [
+    check::COMMAND,
+    info::COMMAND,
+    list::COMMAND,
+    play::COMMAND,
+    replay::COMMAND,
+    frames::COMMAND,
+    build::COMMAND,
+    rewrite::COMMAND,
+    trailer::COMMAND,
+];
 
 impl Command {
     pub fn usage(&self) -> &'static str {

@@ -1,6 +1,7 @@
 //! What the commands share.
 
 pub mod arguments;
+pub mod cells;
 pub mod colours;
 pub mod failure;
 pub mod files;
@@ -9,3 +10,4 @@ pub mod progress;
 pub mod refused;
 pub mod say;
 pub mod stored;
+pub mod terminal;

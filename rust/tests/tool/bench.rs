@@ -1,8 +1,9 @@
 //! A directory in which the tool is run, gone when the test is over.
 
 use std::fs;
+use std::io::Write;
 use std::path::{Path, PathBuf};
-use std::process::{self, Command, Output};
+use std::process::{self, Command, Output, Stdio};
 use std::sync::atomic::{AtomicUsize, Ordering};
 
 pub struct Bench {
@@ -87,6 +88,15 @@ impl Bench {
 
     pub fn run(&self, words: &[&str]) -> Run {
         Run::of(self.command(words).output().unwrap())
+    }
+
+    /// A run that is given this on standard input.
+    pub fn run_with(&self, words: &[&str], input: &[u8]) -> Run {
+        let mut command = self.command(words);
+        let mut child = command.stdin(Stdio::piped()).stdout(Stdio::piped()).stderr(Stdio::piped()).spawn().unwrap();
+        // A run that fails before it reads may have gone away.
+        let _ = child.stdin.take().unwrap().write_all(input);
+        Run::of(child.wait_with_output().unwrap())
     }
 
     pub fn command(&self, words: &[&str]) -> Command {

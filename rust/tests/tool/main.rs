@@ -7,6 +7,8 @@ mod frames;
 mod info;
 mod list;
 mod pictures;
+mod play;
+mod replay;
 mod rewrite;
 mod samples;
 mod trailer;

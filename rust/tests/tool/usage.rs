@@ -4,7 +4,7 @@ use crate::bench::{Bench, Run};
 use crate::pictures::pictures;
 use std::fs::OpenOptions;
 
-const COMMANDS: [&str; 7] = ["check", "info", "list", "frames", "build", "rewrite", "trailer"];
+const COMMANDS: [&str; 9] = ["check", "info", "list", "play", "replay", "frames", "build", "rewrite", "trailer"];
 
 #[test]
 fn help_for_the_tool_and_for_each_command() {
@@ -24,7 +24,7 @@ fn wrong_usage_has_status_2_and_a_hint() {
     let error = |words: &[&str]| bench.fails(2, words);
     assert_eq!(error(&[]), "flic: a command is missing\nusage: flic COMMAND ..\nflic --help lists the commands\n");
     assert!(error(&["chek", "a"]).starts_with("flic: there is no command chek: did you mean check?\n"));
-    assert!(error(&["play", "a"]).starts_with("flic: there is no command play\n"));
+    assert!(error(&["paint", "a"]).starts_with("flic: there is no command paint\n"));
     let lap = error(&["frames", "a", "b", "--lap", "2"]);
     assert!(
         lap.starts_with("flic: there is no option --lap: did you mean --laps?\nusage: flic frames FILE DIR"),
