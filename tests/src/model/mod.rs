@@ -1,5 +1,6 @@
-//! The model: document 01 read a second time, in plain Rust, sharing nothing with the codec. Each part of it is a trait
-//! whose methods are the document's rules, in its order; `Document` takes them all as they stand.
+//! The model: document 01, and document 02 as far as it has landed, read a second time, in plain Rust, sharing nothing
+//! with the codec. Each part of it is a trait whose methods are the document's rules, in its order; `Document` takes them
+//! all as they stand.
 
 pub mod build;
 pub mod check;
@@ -7,6 +8,7 @@ pub mod decode;
 pub mod encode;
 pub mod file_header;
 pub mod listing;
+pub mod player;
 pub mod playing;
 pub mod top_level;
 pub mod trailer;
@@ -16,8 +18,9 @@ use check::Checking;
 use decode::Frames;
 use encode::House;
 use file_header::Headers;
-use flic_boundary::{Pair, PairMut, Reel};
+use flic_boundary::{Pair, PairMut, Player, Reel};
 use listing::Listings;
+use player::Players;
 use playing::Playing;
 use top_level::TopLevel;
 use trailer::Trailers;
@@ -25,12 +28,13 @@ use trailer::Trailers;
 pub use build::Outcome;
 pub use file_header::{field, FileHeader, FILE_HEADER};
 pub use listing::{MOST_DEPTH, MOST_LISTED};
+pub use player::Event;
 pub use top_level::Span;
 
-/// Document 01 as it stands.
+/// The documents as they stand.
 pub struct Document;
 
-/// A reading of document 01, part by part.
+/// A reading of the documents, part by part.
 #[derive(Clone, Copy)]
 pub struct Model {
     pub frames: &'static dyn Frames,
@@ -42,6 +46,7 @@ pub struct Model {
     pub building: &'static dyn Building,
     pub trailers: &'static dyn Trailers,
     pub listings: &'static dyn Listings,
+    pub players: &'static dyn Players,
 }
 
 /// The oracle.
@@ -55,9 +60,10 @@ pub const MODEL: Model = Model {
     building: &Document,
     trailers: &Document,
     listings: &Document,
+    players: &Document,
 };
 
-/// The twelve entry points.
+/// The entry points.
 impl Model {
     pub fn read_frame(&self, bytes: &[u8], width: u64, height: u64, shown: PairMut) -> Result<(), Refusal> {
         self.frames.read_frame(bytes, width, height, shown)
@@ -120,6 +126,25 @@ impl Model {
 
     pub fn next_frame(&self, bytes: &[u8], at: u64) -> Result<Span, Refusal> {
         self.top_level.next_frame(bytes, at)
+    }
+
+    pub fn start_player(&self, bytes: &[u8], now: u32, first: PairMut, second: PairMut) -> Result<Player, Refusal> {
+        self.players.start_player(self, bytes, now, first, second)
+    }
+
+    pub fn tick(&self, player: &mut Player, bytes: &[u8], now: u32, shown: PairMut) -> Result<Event, Refusal> {
+        self.players.tick(self, player, bytes, now, shown)
+    }
+
+    pub fn replay(
+        &self,
+        speed: u32,
+        frames: u64,
+        start: u32,
+        readings: &[u32],
+        numbers: &mut [u32],
+    ) -> Result<usize, Refusal> {
+        self.players.replay(self, speed, frames, start, readings, numbers)
     }
 }
 
