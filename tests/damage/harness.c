@@ -85,6 +85,22 @@ static pair lend_pair(const input *in, unsigned bit, unsigned step)
 
 static int pair_unchanged(const pair *p) { return unchanged(&p->picture) && unchanged(&p->palette); }
 
+static int same_slice(const lent *a, const lent *b)
+{
+    return a->length == b->length && !memcmp(a->bytes, b->bytes, a->length);
+}
+
+static int same(const pair *a, const pair *b)
+{
+    return same_slice(&a->picture, &b->picture) && same_slice(&a->palette, &b->palette);
+}
+
+static int same_player(const flic_player *a, const flic_player *b)
+{
+    return a->width == b->width && a->height == b->height && a->frames == b->frames && a->number == b->number &&
+           a->place == b->place && a->first_end == b->first_end && a->speed == b->speed && a->last == b->last;
+}
+
 static int same_state(const input *in, const uint8_t *picture, const uint8_t *palette, const pair *wanted)
 {
     return !memcmp(picture, wanted->picture.bytes, pixels_of(in)) && !memcmp(palette, wanted->palette.bytes, PALETTE);
@@ -367,11 +383,141 @@ static void next_frame(const input *in)
          "a step gives a span that isn't a frame");
 }
 
+/* The number of the frame that comes after this one. */
+static uint64_t follows(uint64_t number, uint64_t frames) { return number <= frames ? number + 1 : 2; }
+
+/* Ticks a player of an accepted reel three laps, a frame each tick: each frame shows in each lap what it showed in the
+ * first, and a replay tells the same numbers. */
+static void tick_laps(const input *in, flic_player player, const pair *shown)
+{
+    static uint8_t pictures[RING_STATES][PIXELS], palettes[RING_STATES][PALETTE];
+    static uint32_t readings[3 * RING_STATES], numbers[3 * RING_STATES];
+    size_t frames = player.frames, pixels = pixels_of(in), ticks = 3 * frames;
+    uint32_t start = player.last;
+    if (frames >= RING_STATES || player.speed >> 31)
+        return;
+    for (size_t tick = 0; tick <= ticks; tick++) {
+        uint8_t *picture = pictures[(player.number - 1) % frames], *palette = palettes[(player.number - 1) % frames];
+        if (tick >= frames)
+            must(same_state(in, picture, palette, shown), "a lap of ticks shows another state");
+        memcpy(picture, shown->picture.bytes, pixels);
+        memcpy(palette, shown->palette.bytes, PALETTE);
+        if (tick == ticks)
+            break;
+        uint64_t next = follows(player.number, frames);
+        readings[tick] = player.last + player.speed;
+        flic_ticked ticked =
+            flic_tick(&player, in->bytes, in->length, readings[tick], shown->picture.bytes, shown->picture.length,
+                      shown->palette.bytes, shown->palette.length);
+        must(ticked.number == 0 && ticked.event == 1, "a frame that is due isn't drawn");
+        must(player.number == next && player.last == readings[tick], "a drawn frame has another number or draw time");
+        numbers[tick] = (uint32_t)next;
+    }
+    lent told = lend_next(NULL, sizeof *numbers * ticks);
+    flic_written replayed =
+        flic_replay(player.speed, frames, start, readings, ticks, (uint32_t *)(void *)told.bytes, ticks);
+    must(replayed.number == 0 && replayed.length == ticks, "a replay of ticks is refused");
+    must(!memcmp(told.bytes, numbers, told.length), "a replay tells other numbers than the ticks");
+}
+
+static void start_player(const input *in)
+{
+    lent reel = lend_next(in->bytes, in->length);
+    pair first = lend_pair(in, 0, 1), second = lend_pair(in, 2, 3);
+    pair checked_first = lend_pair(in, 0, 1), checked_second = lend_pair(in, 2, 3);
+    uint32_t now = in->choices[SPEED] * 16843009u;
+    flic_player_answer answer =
+        flic_start_player(reel.bytes, reel.length, now, first.picture.bytes, first.picture.length, first.palette.bytes,
+                          first.palette.length, second.picture.bytes, second.picture.length, second.palette.bytes,
+                          second.palette.length);
+    flic_answer checked = flic_check_reel(
+        reel.bytes, reel.length, checked_first.picture.bytes, checked_first.picture.length,
+        checked_first.palette.bytes, checked_first.palette.length, checked_second.picture.bytes,
+        checked_second.picture.length, checked_second.palette.bytes, checked_second.palette.length);
+    meet(12, answer.number, answer.place);
+    must(answer.number == checked.number && answer.place == checked.place, "a start answers otherwise than the check");
+    must(unchanged(&reel), "a reel was changed by a start");
+    must(same(&first, &checked_first) && same(&second, &checked_second), "a start leaves other pairs than the check");
+    flic_player player = answer.player;
+    if (answer.number) {
+        flic_player none = {0};
+        must(same_player(&player, &none), "a refused start gives a player");
+        return;
+    }
+    flic_header header = flic_read_header(reel.bytes, reel.length);
+    flic_span frame = flic_next_frame(reel.bytes, header.size, HEADER);
+    flic_player wanted = {header.width, header.height, header.frames, 1, frame.end, frame.end, header.speed, now};
+    must(same_player(&player, &wanted), "a start gives another player");
+    tick_laps(in, player, &first);
+}
+
+static void tick(const input *in)
+{
+    uint64_t place = word(in->choices + END);
+    if (place == 65535)
+        place = HEADER;
+    uint32_t speed = in->choices[SPEED] * 16843009u, last = in->choices[STATES] * 16843009u;
+    uint32_t now = last + (in->choices[ROOM] < 128 ? speed : (in->choices[ROOM] - 128u) * 33818640u);
+    flic_player before = {in->width, in->height, in->choices[FRAMES], (uint8_t)(in->choices[CLOSED] + 1), place,
+                          in->choices[STATES] * 5u, speed, last};
+    lent record = lend_next((const uint8_t *)&before, sizeof before);
+    lent reel = lend_next(in->bytes, in->length);
+    pair shown = lend_pair(in, 0, 1);
+    flic_player *player = (flic_player *)(void *)record.bytes;
+    flic_ticked ticked = flic_tick(player, reel.bytes, reel.length, now, shown.picture.bytes, shown.picture.length,
+                                   shown.palette.bytes, shown.palette.length);
+    meet(13, ticked.number, ticked.place + ticked.event);
+    must(ticked.place <= reel.length && ticked.number <= 15 && ticked.event <= 2, "an answer out of range");
+    must(unchanged(&reel), "a reel was changed by a tick");
+    must(unchanged_from(&shown.picture, pixels_of(in)) && unchanged_from(&shown.palette, PALETTE),
+         "excess was changed");
+    must(ticked.event == 1 || pair_unchanged(&shown), "a tick that draws nothing changed the state");
+    uint32_t reading = now, number = 0;
+    flic_written replayed = flic_replay(speed, 1, last, &reading, 1, &number, 1);
+    must(replayed.number == 0 && number == 1u + (ticked.number || ticked.event == 1),
+         "a frame is due in a tick or in its replay alone");
+    flic_player wanted = before;
+    if (ticked.number) {
+        must(ticked.event == 0 && unchanged(&record), "a refused tick tells an event, or changed the record");
+    } else if (ticked.event == 2) {
+        wanted.last = now;
+    } else if (ticked.event == 1) {
+        wanted.number = follows(before.number, before.frames);
+        wanted.last = last + speed;
+        wanted.place = wanted.number == before.frames + 1 ? before.first_end : player->place;
+        must(before.number >= 1 && before.number <= before.frames + 1, "a frame was drawn after a number out of range");
+        must(wanted.number == before.frames + 1 || (place + 16 <= player->place && player->place <= reel.length),
+             "a drawn frame ends out of range");
+    }
+    must(same_player(player, &wanted), "a tick leaves another record");
+}
+
+static void replay(const input *in)
+{
+    size_t ticks = in->length / sizeof(uint32_t);
+    size_t words = in->choices[ROOM] < 128 ? ticks + in->choices[ROOM] % 3 : in->choices[ROOM] - 128u;
+    uint64_t frames = word(in->choices + FRAMES);
+    uint32_t speed = in->choices[SPEED] * (in->choices[STATES] & 1 ? 1u : 16843009u), start = word(in->choices + END);
+    lent readings = lend_next(in->bytes, ticks * sizeof(uint32_t)), numbers = lend_next(NULL, words * sizeof(uint32_t));
+    const uint32_t *told = (const uint32_t *)(const void *)numbers.bytes;
+    flic_written replayed = flic_replay(speed, frames, start, (const uint32_t *)(const void *)readings.bytes, ticks,
+                                        (uint32_t *)(void *)numbers.bytes, words);
+    meet(14, replayed.number, replayed.length);
+    must(unchanged(&readings), "a replay changed the readings");
+    must(replayed.number == (frames < 1 || frames > 4000 ? 14 : words < ticks ? 3 : 0) && replayed.place == 0,
+         "a replay gives another refusal");
+    must(replayed.length == (replayed.number ? 0 : ticks), "a replay tells another length");
+    must(unchanged_from(&numbers, (size_t)replayed.length * sizeof(uint32_t)), "a replay changed other words");
+    for (size_t tick = 0, stood = 1; tick < replayed.length; stood = told[tick++])
+        must(told[tick] == stood || told[tick] == follows(stood, frames), "a replay goes on to another frame");
+}
+
 int LLVMFuzzerTestOneInput(const uint8_t *data, size_t size)
 {
     static void (*const entries[])(const input *) = {read_frame,    write_frame,   rewrite_frame, check_reel,
                                                      open_reel,     add_frame,     close_reel,    check_trailer,
-                                                     write_trailer, list,          read_header,   next_frame};
+                                                     write_trailer, list,          read_header,   next_frame,
+                                                     start_player,  tick,          replay};
     if (size < CHOICES || size - CHOICES > MOST)
         return 0;
     input in = {data, data + CHOICES, size - CHOICES, data[WIDTH], data[HEIGHT], data + CHOICES, size - CHOICES};

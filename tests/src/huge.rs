@@ -3,13 +3,15 @@
 use crate::damage::{set_size, set_word};
 use crate::model::{FILE_HEADER, FRAME_HEADER, FRAME_TYPE, MODEL};
 use crate::runner::calls::{
-    AddCase, Call, CheckCase, CheckTrailerCase, CloseCase, HeaderCase, ListCase, StepCase, WriteTrailerCase,
+    AddCase, Call, CheckCase, CheckTrailerCase, CloseCase, HeaderCase, ListCase, StartCase, StepCase, TickCase,
+    WriteTrailerCase,
 };
 use crate::runner::compare::Subject;
 use crate::runner::guards::{lend, Guarded};
+use crate::runner::lent::alignment;
 use crate::runner::told::Told;
 use crate::states::State;
-use flic_boundary::Reel;
+use flic_boundary::{Player, Reel};
 
 const LARGEST: u64 = u32::MAX as u64;
 const LENGTH: usize = LARGEST as usize + 64;
@@ -23,6 +25,10 @@ const ENDS: [u64; 4] = [LARGEST - 16, LARGEST - 15, LARGEST, LARGEST + 40];
 
 /// How many bytes there are after the reel's size.
 const ROOMS: [usize; 4] = [0, TRAILER - 1, TRAILER, TRAILER + 1];
+
+/// Where a frame stands past 32 bits, and places of a record: at the size, at that frame, at its end, past the bytes.
+const PAST: u64 = LARGEST + 9;
+const PLACES: [u64; 4] = [LARGEST, PAST, PAST + FRAME_HEADER as u64, LENGTH as u64 + 1];
 
 /// Bytes that were lent to one call after another, the answers, and what listings hold.
 struct Huge {
@@ -52,15 +58,17 @@ impl Huge {
         Some((huge, closed.reel))
     }
 
-    /// Makes a call in which these bytes stand for the first slice.
+    /// Makes a call in which these bytes stand for the slice that is the reel or the file.
     fn call(&mut self, subject: &dyn Subject, call: &dyn Call) {
-        let zeros = Guarded::holding(&[], SEED);
-        let mut slices = vec![std::mem::replace(&mut self.bytes, zeros)];
-        slices.extend(call.slices()[1..].iter().map(|slice| Guarded::holding(slice, SEED)));
+        let (lends, aligned) = (call.row().lends, call.row().aligned);
+        let which = lends.iter().position(|name| ["reel", "file"].contains(name)).expect("a call on a reel or a file");
+        let guarded = |(at, slice): (usize, &&[u8])| Guarded::holding(slice, alignment(aligned, at), SEED);
+        let mut slices: Vec<Guarded> = call.slices().iter().enumerate().map(guarded).collect();
+        std::mem::swap(&mut slices[which], &mut self.bytes);
         self.told.push(lend(&mut slices, |lent| subject.call(call, lent)));
         assert!(slices.iter().all(Guarded::guards_hold), "a byte outside a lent slice was written");
-        self.texts.extend(slices[1..].iter().map(|slice| slice.content().to_vec()));
-        self.bytes = slices.swap_remove(0);
+        self.bytes = slices.remove(which);
+        self.texts.extend(slices.iter().map(|slice| slice.content().to_vec()));
     }
 
     /// The answers, what other slices hold, the header, the first frame, and the bytes from here on.
@@ -109,6 +117,23 @@ fn walked(subject: &dyn Subject, room: u64) -> Left {
     Some(huge.left(reel.end as usize))
 }
 
+/// A player of a reel of the largest size: started, ticked to its ring, and then, with a frame of its own past 32 bits,
+/// to that one, whose record keeps `place`.
+fn ticked(subject: &dyn Subject, place: u64) -> Left {
+    let (mut huge, _) = Huge::closed(LENGTH, LARGEST - RING)?;
+    let (first, second) = (State::blank(1), State::blank(1));
+    huge.call(subject, &StartCase { bytes: Vec::new(), now: 0, first, second });
+    let frame = &mut huge.bytes.content_mut()[PAST as usize..];
+    set_size(frame, 0, FRAME_HEADER as u32);
+    set_word(frame, 4, FRAME_TYPE);
+    let ring = LARGEST - RING;
+    let right = Player { width: 1, height: 1, frames: 1, number: 1, place: ring, first_end: ring, speed: 0, last: 0 };
+    for player in [right, Player { frames: 2, place, ..right }, Player { place, first_end: place, ..right }] {
+        huge.call(subject, &TickCase { player, bytes: Vec::new(), now: 0, shown: State::blank(1) });
+    }
+    Some(huge.left(LENGTH - 128))
+}
+
 /// Calls by their name, with the numbers that they are tried with.
 type Tried = (&'static str, fn(&dyn Subject, u64) -> Left, Vec<u64>);
 
@@ -147,11 +172,27 @@ pub fn files(subject: &dyn Subject) -> Result<Option<usize>, String> {
     )
 }
 
+/// A player whose reel, and whose record's place, come up to 32 bits and past them.
+pub fn players(subject: &dyn Subject) -> Result<Option<usize>, String> {
+    compared(subject, vec![("a player whose record's place is", ticked, PLACES.to_vec())])
+}
+
 #[cfg(test)]
 mod tests {
     use super::*;
+    use crate::model::player::Players;
+    use crate::model::Model;
     use crate::runner::told::Rest;
     use crate::runner::wrongs::Telling;
+
+    /// A player that keeps 32 bits of its place.
+    struct PlaceOf32Bits;
+
+    impl Players for PlaceOf32Bits {
+        fn place_after(&self, _player: &Player, end: u64) -> u64 {
+            end & LARGEST
+        }
+    }
 
     fn numbers(left: Left) -> Option<Vec<u32>> {
         left.map(|(told, _)| told.iter().map(|told| told.number).collect())
@@ -185,6 +226,19 @@ mod tests {
     }
 
     #[test]
+    fn a_place_may_lie_past_32_bits() {
+        let Some((told, left)) = ticked(&MODEL, PAST) else {
+            return;
+        };
+        assert_eq!(told.iter().map(|told| told.number).collect::<Vec<_>>(), [0; 4]);
+        let place = |record: &[u8]| u64::from_ne_bytes(record[32..40].try_into().expect("eight bytes"));
+        let ring = LARGEST - RING;
+        assert_eq!([place(&left[4]), place(&left[7]), place(&left[10])], [ring, PAST + 16, PAST]);
+        let numbers = PLACES.map(|place| numbers(ticked(&MODEL, place)).map(|told| told[2]));
+        assert_eq!(numbers, [Some(6), Some(0), Some(6), Some(4)]);
+    }
+
+    #[test]
     fn numbers_cut_to_32_bits_are_seen() {
         assert!(matches!(reels(&MODEL), Ok(Some(9) | None)));
         assert!(matches!(files(&MODEL), Ok(Some(4) | None)));
@@ -194,5 +248,8 @@ mod tests {
         let cut = |told: Told| Told { rest: Rest::Length(told.length() & LARGEST), ..told };
         let writes = Telling { function: "write_trailer", altered: cut };
         assert!(matches!(files(&writes), Err(_) | Ok(None)));
+        assert!(matches!(players(&MODEL), Ok(Some(4) | None)));
+        let players = players(&Model { players: &PlaceOf32Bits, ..MODEL });
+        assert!(matches!(players, Err(_) | Ok(None)));
     }
 }

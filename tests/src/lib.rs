@@ -5,6 +5,7 @@ pub mod damage;
 pub mod frames;
 pub mod huge;
 pub mod model;
+pub mod players;
 pub mod programs;
 pub mod reels;
 pub mod rng;

@@ -1,21 +1,22 @@
-//! The four test programs that compare single calls, each with its families and what it must meet.
+//! The five test programs that compare single calls, each with its families and what it must meet.
 
 use crate::model::{MAX_HEIGHT, MAX_WIDTH, PALETTE_BYTES};
+use crate::players::night::{kept_time, night, Night, NIGHT};
 use crate::rng::Rng;
 use crate::runner::calls::{
-    AddCase, CheckCase, CheckTrailerCase, CloseCase, HeaderCase, ListCase, OpenCase, ReadCase, RewriteCase, StepCase,
-    WriteCase, WriteTrailerCase,
+    AddCase, CheckCase, CheckTrailerCase, CloseCase, HeaderCase, ListCase, OpenCase, ReadCase, ReplayCase, RewriteCase,
+    StartCase, StepCase, TickCase, WriteCase, WriteTrailerCase,
 };
 use crate::runner::command::fail;
 use crate::runner::compare::Comparer;
-use crate::runner::examples::{of_reading, of_reels, of_trailers, of_writing};
+use crate::runner::examples::{of_players, of_reading, of_reels, of_trailers, of_writing};
 use crate::runner::inputs::{listed, Case};
-use crate::runner::met::{AROUND, PLAY};
+use crate::runner::met::{AROUND, LIVE, PLAY};
 use crate::runner::program::Program;
 use crate::states::State;
 use crate::write_cases::{REWRITE_FAMILIES, WRITE_FAMILIES};
-use crate::wrong::{seen_in_reading, seen_in_reels, seen_in_trailers, seen_in_writing};
-use crate::{cases, huge, reels, trailers};
+use crate::wrong::{seen_in_players, seen_in_reading, seen_in_reels, seen_in_trailers, seen_in_writing};
+use crate::{cases, huge, players, reels, trailers};
 use flic_boundary::FRAME_MOST;
 
 pub fn reading() -> Program {
@@ -81,6 +82,20 @@ pub fn trailers() -> Program {
     }
 }
 
+pub fn players() -> Program {
+    Program {
+        name: "players",
+        unit: "calls and lists",
+        base: 20_265,
+        families: listed(&players::families::FAMILIES),
+        least: 470_000,
+        rows: vec![&StartCase::ROW, &TickCase::ROW, &ReplayCase::ROW, &LIVE],
+        examples: of_players(),
+        seen_wrongs: seen_in_players,
+        besides: huge_reels_and_a_night,
+    }
+}
+
 /// The largest picture and every colour change to noise: an output of FLIC_FRAME_MOST bytes holds the frame.
 fn largest_picture(library: Comparer, base: u64) {
     let mut rng = Rng::new(base);
@@ -113,6 +128,24 @@ fn huge_trailers(library: Comparer, _base: u64) {
     around_32_bits("trailers", "files", huge::files(library.subject));
 }
 
+fn huge_reels_and_a_night(library: Comparer, base: u64) {
+    around_32_bits("players", "calls on sizes and places", huge::players(library.subject));
+    match night(library.subject, NIGHT, base) {
+        Ok(kept) => {
+            let Night { ticks, draws, drift, behind } = kept;
+            let hours = NIGHT / 3_600_000;
+            println!(
+                "players: a night of {hours} hours through the roll-over: {ticks} ticks, {draws} frames drawn, every \
+                 number the same live, in the replay and in the model; drift {drift} ms, {behind} ms behind the clock"
+            );
+            if !kept_time(&kept) {
+                fail("players: a night's player doesn't keep time", "look at what becomes of the last draw time");
+            }
+        }
+        Err(what) => fail(&format!("players: a night goes astray: {what}"), "make this tick alone"),
+    }
+}
+
 fn around_32_bits(program: &str, what: &str, compared: Result<Option<usize>, String>) {
     match compared {
         Ok(Some(number)) => println!("{program}: {number} {what} around 32 bits compared"),
@@ -134,7 +167,7 @@ mod tests {
 
     #[test]
     fn everything_wrong_is_seen() {
-        for program in [reading(), writing(), reels(), trailers()] {
+        for program in [reading(), writing(), reels(), trailers(), players()] {
             assert_eq!(unseen(&(program.seen_wrongs)(7)), Vec::<&str>::new());
         }
     }
@@ -142,7 +175,7 @@ mod tests {
     #[test]
     fn the_model_agrees_with_itself_and_meets_every_answer() {
         let model = Comparer { subject: &MODEL, lender: &GuardBytes };
-        for program in [reading(), writing(), reels(), trailers()] {
+        for program in [reading(), writing(), reels(), trailers(), players()] {
             let mut met = Met::nothing(&program.rows);
             for family in &program.families {
                 for batch in 0..family.batches().div_ceil(20) {

@@ -24,7 +24,7 @@ use std::time::{Duration, Instant, SystemTime, UNIX_EPOCH};
 
 const SELF_CHECK_SEED: u64 = 20_264;
 const PROGRESS: Duration = Duration::from_secs(3);
-/// After so many cases every refusal must have been met.
+/// After so many cases every answer of every entry point must have been met.
 const ENOUGH: u64 = 50_000;
 
 fn main() {
@@ -112,7 +112,8 @@ fn collect(collection: &Collection) {
 
 fn require_all_met(met: &Met) {
     if !met.missing().is_empty() {
-        fail(&format!("damage: refusals never met: {:?}", met.missing()), "make cases that meet them");
+        let missing = met.missing().join(", ");
+        fail(&format!("damage: answers never met (0: done): {missing}"), "make cases that meet them");
     }
 }
 

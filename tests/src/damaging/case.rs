@@ -1,7 +1,8 @@
-//! One case of the damage run: what all twelve entry points are handed, and the file in which it is kept.
+//! One case of the damage run: what all entry points are handed, and the file in which it is kept.
 
+use super::numbers;
 use super::spans::Spans;
-use flic_boundary::Reel;
+use flic_boundary::{Player, Reel};
 use flic_tests::model::FILE_HEADER;
 use flic_tests::rng::{mix, Rng};
 use flic_tests::states::State;
@@ -10,8 +11,8 @@ use std::ops::Range;
 /// What the calls of one case are made from.
 #[derive(Clone, Debug, PartialEq, Eq)]
 pub struct Case {
-    /// Gives the bytes that an output holds before the call, the sides on which guard pages stand, and the offset from
-    /// which the next frame is looked for.
+    /// Gives the bytes that an output holds before the call, the sides on which guard pages stand, the offset from which
+    /// the next frame is looked for, a player's record and the readings of its clock.
     pub seed: u64,
     /// The size that is handed to the calls on frames, and to an open.
     pub width: u64,
@@ -33,6 +34,8 @@ pub struct Case {
 }
 
 const OFFSET_MARK: u64 = 0x0FF5;
+const PLAYER_MARK: u64 = 0x91A7;
+const READINGS_MARK: u64 = 0xC10C;
 const MARK: [u8; 8] = *b"FLICdmg1";
 const NUMBERS: usize = 18;
 
@@ -82,10 +85,13 @@ impl Case {
         &self.bytes[self.frame.clone()]
     }
 
-    /// Where the next frame is looked for: from the first chunk on, at a chunk's begin or end, around the end of the
-    /// bytes, anywhere, or far away.
+    /// Where the next frame is looked for.
     pub fn offset(&self) -> u64 {
-        let rng = &mut Rng::new(mix(self.seed, OFFSET_MARK));
+        self.some_offset(&mut Rng::new(mix(self.seed, OFFSET_MARK)))
+    }
+
+    /// From the first chunk on, at a chunk's begin or end, around the end of the bytes, anywhere, or far away.
+    fn some_offset(&self, rng: &mut Rng) -> u64 {
         let (spans, length) = (Spans::of(&self.bytes).all, self.bytes.len());
         let at = match rng.below(8) {
             0 | 1 => FILE_HEADER,
@@ -96,6 +102,32 @@ impl Case {
             _ => rng.below(length + 1),
         };
         at as u64
+    }
+
+    /// The record of a player that is ticked, most often where a frame stands, and the reading, most often when one is
+    /// due.
+    pub fn ticked(&self) -> (Player, u32) {
+        let rng = &mut Rng::new(mix(self.seed, PLAYER_MARK));
+        let frames = self.reel.frames;
+        let (place, first_end) = (self.some_offset(rng), self.some_offset(rng));
+        let place = if rng.once_in(2) { self.frame.start as u64 } else { place };
+        let number = numbers::frame_number(rng, frames);
+        let last = rng.draw() as u32;
+        let Case { width, height, speed, .. } = *self;
+        let player = Player { width, height, frames, number, place, first_end, speed, last };
+        (player, last.wrapping_add(numbers::difference(rng, speed)))
+    }
+
+    /// The reading at which a player is started, and those that are replayed.
+    pub fn readings(&self) -> (u32, Vec<u32>) {
+        let rng = &mut Rng::new(mix(self.seed, READINGS_MARK));
+        let (start, count) = (rng.draw() as u32, rng.below(40));
+        let mut now = start;
+        let reading = |_| {
+            now = now.wrapping_add(numbers::difference(rng, self.speed));
+            now
+        };
+        (start, (0..count).map(reading).collect())
     }
 
     /// The case that a file holds; bytes after it are left.

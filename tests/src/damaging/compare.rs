@@ -1,11 +1,11 @@
-//! One case as calls of the twelve entry points.
+//! One case as calls of all entry points.
 
 use super::case::Case;
 use super::guarded::GuardPages;
 use flic_tests::rng::{mix, Rng};
 use flic_tests::runner::calls::{
-    AddCase, Call, CheckCase, CheckTrailerCase, CloseCase, HeaderCase, ListCase, OpenCase, ReadCase, RewriteCase,
-    StepCase, WriteCase, WriteTrailerCase,
+    AddCase, Call, CheckCase, CheckTrailerCase, CloseCase, HeaderCase, ListCase, OpenCase, ReadCase, ReplayCase,
+    RewriteCase, StartCase, StepCase, TickCase, WriteCase, WriteTrailerCase, ROWS,
 };
 use flic_tests::runner::compare::{Comparer, Difference, Library};
 
@@ -18,7 +18,7 @@ pub type Found = (&'static str, Difference);
 /// The calls of a case with their seeds, in the order of the rows.
 pub fn calls(case: &Case) -> Vec<(Box<dyn Call>, u64)> {
     let Case { width, height, speed, reel, .. } = *case;
-    let seeds = [0, 1, 2, 3, 4, 5, 6, 7, 8, 9, 10, 11].map(|row| mix(case.seed, row));
+    let seeds: [u64; ROWS.len()] = std::array::from_fn(|row| mix(case.seed, row as u64));
     let state = || (case.first.clone(), case.second.clone());
     let (bytes, frame) = (|| case.bytes.clone(), || case.frame_bytes().to_vec());
     let out = |row: usize, room| Rng::new(seeds[row]).bytes(room);
@@ -28,7 +28,12 @@ pub fn calls(case: &Case) -> Vec<(Box<dyn Call>, u64)> {
     let (first, second) = state();
     let (showing, coming) = state();
     let (one, other) = state();
-    let calls: [Box<dyn Call>; 12] = [
+    let (standing, beside) = state();
+    let ((player, now), (start, readings)) = (case.ticked(), case.readings());
+    let words = (readings.len() + case.frame_room % 8).saturating_sub(2);
+    let numbers = (0..words).map(|word| mix(seeds[14], word as u64) as u32).collect();
+    let (ticked, _) = state();
+    let calls: [Box<dyn Call>; ROWS.len()] = [
         Box::new(ReadCase { bytes: frame(), width, height, shown }),
         Box::new(WriteCase { width, height, previous, next, out: out(1, case.frame_room) }),
         Box::new(RewriteCase { bytes: frame(), width, height, previous: before, work, out: out(2, case.frame_room) }),
@@ -41,6 +46,9 @@ pub fn calls(case: &Case) -> Vec<(Box<dyn Call>, u64)> {
         Box::new(ListCase { bytes: bytes(), out: out(9, case.list_room) }),
         Box::new(HeaderCase(bytes())),
         Box::new(StepCase { bytes: bytes(), at: case.offset() }),
+        Box::new(StartCase { bytes: bytes(), now: start, first: standing, second: beside }),
+        Box::new(TickCase { player, bytes: bytes(), now, shown: ticked }),
+        Box::new(ReplayCase { speed, frames: reel.frames, start, readings, numbers }),
     ];
     calls.into_iter().zip(seeds).collect()
 }

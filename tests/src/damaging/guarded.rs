@@ -66,7 +66,8 @@ fn make_room(stretches: &mut Vec<Stretch>, slices: &[&[u8]]) {
 }
 
 impl Lender for GuardPages {
-    fn lend(&self, slices: &[&[u8]], seed: u64, call: &mut dyn FnMut(&mut Lent)) -> Left {
+    /// A slice of whole values that begins or ends at a page is aligned for them.
+    fn lend(&self, slices: &[&[u8]], _aligned: &[usize], seed: u64, call: &mut dyn FnMut(&mut Lent)) -> Left {
         STRETCHES.with_borrow_mut(|stretches| {
             make_room(stretches, slices);
             let mut rng = Rng::new(seed);

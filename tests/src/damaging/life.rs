@@ -1,5 +1,5 @@
-//! The whole life of a reel, from a case's states: opened, added to, closed, checked, played, given a trailer, listed,
-//! stepped through.
+//! The whole life of a reel, from a case's states: opened, added to, closed, checked, played, ticked, given a trailer,
+//! listed, stepped through.
 
 use super::case::Case;
 use super::compare::{Found, LIBRARY};
@@ -8,10 +8,11 @@ use flic_boundary::Reel;
 use flic_tests::model::{accepted_size, FILE_HEADER, MODEL};
 use flic_tests::rng::{mix, Rng};
 use flic_tests::runner::calls::{
-    AddCase, CheckCase, CheckTrailerCase, CloseCase, HeaderCase, ListCase, OpenCase, StepCase, WriteTrailerCase,
+    AddCase, CheckCase, CheckTrailerCase, CloseCase, HeaderCase, ListCase, OpenCase, StartCase, StepCase,
+    WriteTrailerCase,
 };
 use flic_tests::runner::compare::{Agreed, Difference};
-use flic_tests::runner::inputs::{self, PlayCase};
+use flic_tests::runner::inputs::{self, LiveCase, PlayCase};
 use flic_tests::runner::told::Rest;
 use flic_tests::sizes::exact;
 use flic_tests::states::{any_state, State};
@@ -62,7 +63,7 @@ pub fn life(case: &Case, count: Count) -> Result<(), Found> {
     let (first, second) = life.pairs(pixels);
     let (reel, bytes) = (life.reel, life.bytes.clone());
     if life.builds(CloseCase { reel, bytes, first, second })? {
-        life.whole(width, height, asked)?;
+        life.whole(width, height, asked, case.readings())?;
     }
     Ok(())
 }
@@ -111,13 +112,24 @@ impl Life<'_> {
         Err((function, Difference { library: told.clone(), model: told, what }))
     }
 
-    /// What holds of a reel that was closed: where no record was altered, it is accepted and plays what was asked for.
-    fn whole(&mut self, width: usize, height: usize, states: Vec<State>) -> Result<(), Found> {
+    /// What holds of a reel that was closed: where no record was altered, it is accepted and plays what was asked for, by
+    /// frames and by ticks.
+    fn whole(
+        &mut self,
+        width: usize,
+        height: usize,
+        states: Vec<State>,
+        (now, readings): (u32, Vec<u32>),
+    ) -> Result<(), Found> {
         let bytes = self.bytes[..self.reel.end as usize].to_vec();
         let (first, second) = self.pairs(width * height);
-        self.done(CheckCase { bytes: bytes.clone(), first, second })?;
-        if !self.altered {
-            self.call(PlayCase { bytes: bytes.clone(), width, height, states })?;
+        self.done(CheckCase { bytes: bytes.clone(), first: first.clone(), second: second.clone() })?;
+        let start = StartCase { bytes: bytes.clone(), now, first, second };
+        if self.altered {
+            self.call(start)?;
+        } else {
+            self.call(PlayCase { bytes: bytes.clone(), width, height, states: states.clone() })?;
+            self.done(LiveCase { start, readings, states })?;
         }
         let file = [&bytes[..], &vec![0xEE; trailer_length(&bytes)]].concat();
         let Agreed { told, mut left } = self.done(WriteTrailerCase(file))?;

@@ -3,8 +3,8 @@
 use flic_tests::runner::calls::ROWS;
 use std::collections::{BTreeMap, BTreeSet};
 
-/// The refusals of document 01's table.
-const REFUSALS: std::ops::RangeInclusive<u32> = 1..=18;
+/// How many refusals document 01's table has.
+const REFUSALS: usize = 18;
 
 #[derive(Default)]
 pub struct Met {
@@ -25,9 +25,11 @@ impl Met {
         self.numbers.keys().map(|(_, number)| *number).filter(|number| *number != 0).collect()
     }
 
-    /// The refusals that no call gave.
-    pub fn missing(&self) -> Vec<u32> {
-        REFUSALS.filter(|number| !self.refusals().contains(number)).collect()
+    /// The answers that an entry point can give and that none of its calls gave, in words.
+    pub fn missing(&self) -> Vec<String> {
+        let answers = ROWS.iter().flat_map(|row| row.numbers.iter().map(|number| (row.function, *number)));
+        let missing = answers.filter(|answer| !self.numbers.contains_key(answer));
+        missing.map(|(entry, number)| format!("{entry} {number}")).collect()
     }
 
     /// One line for each entry point: its calls, those that were done, and the refusals with their numbers.
@@ -50,6 +52,6 @@ impl Met {
     pub fn summary(&self) -> String {
         let met = self.refusals().len();
         let Met { cases, .. } = self;
-        format!("{cases} cases, {} calls, {met} of 18 refusals met, 0 differences", self.calls())
+        format!("{cases} cases, {} calls, {met} of {REFUSALS} refusals met, 0 differences", self.calls())
     }
 }

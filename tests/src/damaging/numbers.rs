@@ -1,4 +1,4 @@
-//! Damages what is handed in beside bytes: sizes, records, and the lengths of lent slices.
+//! Damages what is handed in beside bytes: sizes, records, readings, and the lengths of lent slices.
 
 use flic_boundary::Reel;
 use flic_tests::model::MAX_FRAMES;
@@ -56,6 +56,27 @@ fn frames(rng: &mut Rng, right: u64) -> u64 {
         rng.pick(&near)
     } else {
         rng.pick(&[0, 1, MAX_FRAMES - 1, MAX_FRAMES, MAX_FRAMES + 1, 65_537, u64::MAX])
+    }
+}
+
+/// The number of a frame that stands, or now and then another.
+pub fn frame_number(rng: &mut Rng, frames: u64) -> u64 {
+    match rng.below(10) {
+        0 => rng.pick(&[0, frames.wrapping_add(2), u64::MAX]),
+        1..=3 => frames.wrapping_add(1),
+        4..=6 => frames,
+        _ => 1,
+    }
+}
+
+/// How far a reading is from the last draw time: most often the speed, at times around it or around half the range.
+pub fn difference(rng: &mut Rng, speed: u32) -> u32 {
+    const HALF: u32 = 1 << 31;
+    match rng.below(12) {
+        0 => rng.pick(&[0, 1, HALF - 1, HALF, HALF + 1, u32::MAX]),
+        1 => rng.pick(&[speed.wrapping_sub(1), speed.wrapping_add(1)]),
+        2 => rng.draw() as u32,
+        _ => speed,
     }
 }
 

@@ -7,7 +7,9 @@ use flic_tests::rng::mix;
 use flic_tests::runner::compare::Comparer;
 use flic_tests::runner::lent::{Lender, Side};
 use flic_tests::runner::wrongs::{ignoring, models, Deed, Wrong};
-use flic_tests::wrong::{of_frames, tellers, trespassers, Trespass, READING, REELS, REWRITING, TRAILERS, WRITING};
+use flic_tests::wrong::{
+    of_frames, player_tellers, tellers, trespassers, Trespass, PLAYERS, READING, REELS, REWRITING, TRAILERS, WRITING,
+};
 use std::os::unix::process::ExitStatusExt;
 use std::process::{Command, Stdio};
 
@@ -18,7 +20,7 @@ const BEFORE: Deed = Deed::WritesBeside(Side::Before);
 const AFTER: Deed = Deed::WritesBeside(Side::After);
 
 /// Writes beside slices of each kind, besides those that other tests try.
-const BESIDE: [Trespass; 8] = [
+const BESIDE: [Trespass; 12] = [
     ("a byte after a guarded picture", "read_frame", "picture", AFTER),
     ("a byte before a guarded picture", "read_frame", "picture", BEFORE),
     ("a byte after a guarded listing", "list", "output", AFTER),
@@ -27,6 +29,10 @@ const BESIDE: [Trespass; 8] = [
     ("a byte before a guarded reel", "add_frame", "reel", BEFORE),
     ("a byte after a guarded reel in a step", "next_frame", "reel", AFTER),
     ("a byte before a guarded reel in a step", "next_frame", "reel", BEFORE),
+    ("a byte after a guarded palette in a tick", "tick", "palette", AFTER),
+    ("a byte before a guarded palette in a tick", "tick", "palette", BEFORE),
+    ("a byte before guarded numbers", "replay", "numbers", BEFORE),
+    ("a byte after guarded readings", "replay", "readings", AFTER),
 ];
 
 /// Something wrong, and the side of its slices on which the guard pages stand, if that matters: a write beside a slice
@@ -34,14 +40,14 @@ const BESIDE: [Trespass; 8] = [
 type Guarded = (Wrong, Option<Side>);
 
 fn all() -> Vec<Guarded> {
-    let trespasses = [&READING[..], &WRITING, &REWRITING, &REELS, &TRAILERS, &BESIDE].concat();
+    let trespasses = [&READING[..], &WRITING, &REWRITING, &REELS, &TRAILERS, &PLAYERS, &BESIDE].concat();
     let sides = trespasses.iter().map(|(_, _, _, deed)| match deed {
         Deed::WritesBeside(Side::Before) => Some(Side::After),
         Deed::WritesBeside(Side::After) => Some(Side::Before),
         _ => None,
     });
     let mut all: Vec<Guarded> = trespassers(&trespasses).into_iter().zip(sides).collect();
-    let others = [tellers(), ignoring(), models(of_frames(), &["read_frame"])];
+    let others = [tellers(), player_tellers(), ignoring(), models(of_frames(), &["read_frame"])];
     all.extend(others.into_iter().flatten().map(|wrong| (wrong, None)));
     all
 }
@@ -71,7 +77,7 @@ pub const TRESPASSES: [&str; 4] = ["read-after", "read-before", "write-after", "
 /// Touches the byte outside a lent slice, on the side of its guard page; only a fault of this test returns.
 pub fn trespass(word: &str) {
     let side = if word.ends_with("after") { Side::After } else { Side::Before };
-    GuardPages(Some(side)).lend(&[&[1, 2, 3]], 0, &mut |lent| {
+    GuardPages(Some(side)).lend(&[&[1, 2, 3]], &[], 0, &mut |lent| {
         let byte = lent.beside(0, side);
         // SAFETY: none; the system must end this process.
         unsafe {

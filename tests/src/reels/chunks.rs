@@ -71,7 +71,7 @@ pub fn left_over(rng: &mut Rng, sink: Sink) {
 }
 
 /// A frame with something wrong in it, most of the time.
-fn wrong_frame(rng: &mut Rng, width: usize, height: usize) -> Vec<u8> {
+pub fn wrong_frame(rng: &mut Rng, width: usize, height: usize) -> Vec<u8> {
     let whole = any_frame(rng, width, height, None);
     match rng.below(8) {
         0 => damage::wrong_header(&whole, rng),

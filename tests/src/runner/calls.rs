@@ -1,12 +1,13 @@
-//! The twelve entry points, a row each: what a call is handed and lent, how it is made of the library and of the model,
-//! and what a run must meet.
+//! The entry points, a row each: what a call is handed and lent, how it is made of the library and of the model, and what
+//! a run must meet.
 
-use super::lent::Lent;
+use super::lent::{bytes_of, values_in, Lent};
 use super::told::Told;
 use crate::frames::KINDS;
 use crate::model::{kind, Model};
 use crate::states::State;
-use flic_boundary::{self as library, Pair, PairMut, Reel};
+use flic_boundary::{self as library, Pair, PairMut, Player, Reel};
+use std::slice;
 
 /// What is the same for every call of an entry point.
 pub struct Row {
@@ -17,6 +18,8 @@ pub struct Row {
     pub unit: &'static str,
     /// The slices that are lent, in the order of the function's arguments.
     pub lends: &'static [&'static str],
+    /// How the first of them, the second, .. are aligned, as far as they aren't of bytes.
+    pub aligned: &'static [usize],
     /// The numbers that a run must meet, 0 being done.
     pub numbers: &'static [u32],
     /// The kinds that a run must meet in frames that were done, and what is said of these.
@@ -71,7 +74,7 @@ macro_rules! made {
 }
 
 /// The rows, in the order in which the damage test makes its calls.
-pub const ROWS: [&Row; 12] = [
+pub const ROWS: [&Row; 15] = [
     &ReadCase::ROW,
     &WriteCase::ROW,
     &RewriteCase::ROW,
@@ -84,10 +87,14 @@ pub const ROWS: [&Row; 12] = [
     &ListCase::ROW,
     &HeaderCase::ROW,
     &StepCase::ROW,
+    &StartCase::ROW,
+    &TickCase::ROW,
+    &ReplayCase::ROW,
 ];
 
-/// A row of which no kinds are counted.
-const PLAIN: Row = Row { function: "", name: "", unit: "", lends: &[], numbers: &[], kinds: &[], verb: "" };
+/// A row of which no kinds are counted, and that lends bytes alone.
+pub const PLAIN: Row =
+    Row { function: "", name: "", unit: "", lends: &[], aligned: &[], numbers: &[], kinds: &[], verb: "" };
 
 fn pair<'a>(picture: &'a [u8], palette: &'a [u8]) -> Pair<'a> {
     Pair { picture, palette }
@@ -115,6 +122,7 @@ impl ReadCase {
         numbers: &[0, 1, 2, 4, 5, 6, 7, 8, 9, 10, 11, 12, 13],
         kinds: &KINDS,
         verb: "accepted",
+        ..PLAIN
     };
 }
 
@@ -157,6 +165,7 @@ impl WriteCase {
         numbers: &[0, 1, 2, 3],
         kinds: &[kind::COLOR256, kind::SS2, kind::BLACK, kind::BRUN, kind::COPY],
         verb: "written",
+        ..PLAIN
     };
 }
 
@@ -197,6 +206,7 @@ impl RewriteCase {
         numbers: &[0, 1, 2, 3, 4, 5, 6, 7, 8, 9, 10, 11, 12, 13],
         kinds: &KINDS,
         verb: "rewritten",
+        ..PLAIN
     };
 }
 
@@ -228,6 +238,9 @@ impl Call for RewriteCase {
 /// What is lent with a reel that is checked or closed.
 const REEL_AND_PAIRS: &[&str] = &["reel", "first picture", "first palette", "second picture", "second palette"];
 
+/// What a whole-reel check can answer.
+const OF_A_CHECK: &[u32] = &[0, 1, 2, 4, 5, 6, 7, 8, 9, 10, 11, 12, 13, 14, 15, 16];
+
 /// flic_check_reel.
 #[derive(Clone, Debug, PartialEq, Eq)]
 pub struct CheckCase {
@@ -242,7 +255,7 @@ impl CheckCase {
         name: "check",
         unit: "reels",
         lends: REEL_AND_PAIRS,
-        numbers: &[0, 1, 2, 4, 5, 6, 7, 8, 9, 10, 11, 12, 13, 14, 15, 16],
+        numbers: OF_A_CHECK,
         ..PLAIN
     };
 }
@@ -484,5 +497,125 @@ impl Call for StepCase {
 
     fn furthest(&self) -> u64 {
         self.at.max(self.bytes.len() as u64)
+    }
+}
+
+/// flic_start_player.
+#[derive(Clone, Debug, PartialEq, Eq)]
+pub struct StartCase {
+    pub bytes: Vec<u8>,
+    pub now: u32,
+    pub first: State,
+    pub second: State,
+}
+
+impl StartCase {
+    pub const ROW: Row = Row {
+        function: "start_player",
+        name: "start of a player",
+        unit: "reels",
+        lends: REEL_AND_PAIRS,
+        numbers: OF_A_CHECK,
+        ..PLAIN
+    };
+}
+
+impl Call for StartCase {
+    made!(self, [bytes, p, q, n, m], start_player(bytes, self.now, pair_mut(p, q), pair_mut(n, m)));
+
+    fn handed(&self) -> String {
+        format!("at reading {}", self.now)
+    }
+
+    fn slices(&self) -> Vec<&[u8]> {
+        let (first, second) = (&self.first, &self.second);
+        vec![&self.bytes, &first.picture, &first.palette, &second.picture, &second.palette]
+    }
+
+    fn furthest(&self) -> u64 {
+        self.bytes.len() as u64
+    }
+}
+
+/// flic_tick.
+#[derive(Clone, Debug, PartialEq, Eq)]
+pub struct TickCase {
+    pub player: Player,
+    pub bytes: Vec<u8>,
+    pub now: u32,
+    pub shown: State,
+}
+
+impl TickCase {
+    pub const ROW: Row = Row {
+        function: "tick",
+        name: "tick",
+        unit: "ticks",
+        lends: &["player", "reel", "picture", "palette"],
+        aligned: &[align_of::<Player>()],
+        numbers: &[0, 1, 2, 4, 6, 7, 8, 9, 10, 11, 12, 13, 15],
+        ..PLAIN
+    };
+}
+
+impl Call for TickCase {
+    made!(self, [player, bytes, p, q], tick(player_in(player), bytes, self.now, pair_mut(p, q)));
+
+    fn handed(&self) -> String {
+        format!("{:?}, at reading {}", self.player, self.now)
+    }
+
+    fn slices(&self) -> Vec<&[u8]> {
+        let shown = &self.shown;
+        vec![bytes_of(slice::from_ref(&self.player)), &self.bytes, &shown.picture, &shown.palette]
+    }
+
+    fn furthest(&self) -> u64 {
+        self.bytes.len() as u64
+    }
+}
+
+/// The record of a player where it is lent.
+pub fn player_in(bytes: &mut [u8]) -> &mut Player {
+    let [player] = values_in(bytes) else { panic!("one record is lent") };
+    player
+}
+
+/// flic_replay.
+#[derive(Clone, Debug, PartialEq, Eq)]
+pub struct ReplayCase {
+    pub speed: u32,
+    pub frames: u64,
+    pub start: u32,
+    pub readings: Vec<u32>,
+    /// What the words hold before the call.
+    pub numbers: Vec<u32>,
+}
+
+impl ReplayCase {
+    pub const ROW: Row = Row {
+        function: "replay",
+        name: "replay",
+        unit: "lists",
+        lends: &["readings", "numbers"],
+        aligned: &[align_of::<u32>(), align_of::<u32>()],
+        numbers: &[0, 3, 14],
+        ..PLAIN
+    };
+}
+
+impl Call for ReplayCase {
+    made!(
+        self,
+        [readings, numbers],
+        replay(self.speed, self.frames, self.start, values_in(readings), values_in(numbers))
+    );
+
+    fn handed(&self) -> String {
+        format!("speed {}, {} frames, started at reading {}", self.speed, self.frames, self.start)
+    }
+
+    fn slices(&self) -> Vec<&[u8]> {
+        vec![bytes_of(&self.readings), bytes_of(&self.numbers)]
     }
 }

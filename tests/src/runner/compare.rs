@@ -1,12 +1,15 @@
 //! Compares one call with the model: the answer, every lent byte, and what stands around them; then the cases that are
 //! more than a call.
 
-use super::calls::{Call, CheckCase, ReadCase, RewriteCase, WriteCase, WriteTrailerCase};
-use super::inputs::{AroundCase, Case, PlayCase};
-use super::lent::{Left, Lender, Lent};
+use super::calls::{
+    player_in, Call, CheckCase, ReadCase, ReplayCase, RewriteCase, TickCase, WriteCase, WriteTrailerCase,
+};
+use super::inputs::{AroundCase, Case, LiveCase, PlayCase};
+use super::lent::{bytes_of, Left, Lender, Lent};
 use super::told::{Rest, Told};
 use crate::model::{field, size_at, Model, MODEL, PALETTE_BYTES};
 use crate::states::State;
+use flic_boundary::Player;
 
 /// Something that does as the library should.
 pub trait Subject {
@@ -52,7 +55,9 @@ impl Comparer<'_> {
     /// What the subject says and leaves.
     pub fn made(&self, call: &dyn Call, seed: u64) -> (Told, Left) {
         let mut told = None;
-        let left = self.lender.lend(&call.slices(), seed, &mut |lent| told = Some(self.subject.call(call, lent)));
+        let aligned = call.row().aligned;
+        let left =
+            self.lender.lend(&call.slices(), aligned, seed, &mut |lent| told = Some(self.subject.call(call, lent)));
         (told.expect("a call is made while its slices are lent"), left)
     }
 
@@ -75,6 +80,7 @@ impl Comparer<'_> {
             Case::Rewrite(case) => self.rewrite(case, seed),
             Case::Play(case) => self.play(case, seed),
             Case::Around(AroundCase(case)) => self.around(case, seed),
+            Case::Live(case) => self.live(case, seed),
             _ => self.call(case.call().expect("all other cases are one call"), seed),
         }
     }
@@ -162,6 +168,48 @@ impl Comparer<'_> {
         }
         Ok(Agreed { told: before, left: Vec::new() })
     }
+
+    /// Starts a player and ticks it: after each tick the frame that stands shows its state. Then a replay of the same
+    /// readings must tell the same numbers.
+    fn live(&self, case: &LiveCase, seed: u64) -> Result<Agreed, Difference> {
+        let started = self.call(&case.start, seed)?;
+        let Rest::Player(mut player) = started.told.rest else { return Ok(started) };
+        let [_, picture, palette, ..] = &started.left[..] else { return Ok(started) };
+        let mut shown = State { picture: picture.clone(), palette: palette.clone() };
+        let (speed, frames, start) = (player.speed, player.frames, case.start.now);
+        let mut numbers = Vec::new();
+        shows(&case.states, &player, &shown).map_err(|what| difference(started.told, started.told, what))?;
+        for now in &case.readings {
+            let tick = TickCase { player, bytes: case.start.bytes.clone(), now: *now, shown };
+            let Agreed { told, mut left } = self.call(&tick, seed)?;
+            player = *player_in(&mut left[0]);
+            shown = State { palette: left.swap_remove(3), picture: left.swap_remove(2) };
+            require(told.number == 0, || "a tick of a right player is refused".to_string())
+                .and_then(|()| shows(&case.states, &player, &shown))
+                .map_err(|what| difference(told, told, what))?;
+            numbers.push(player.number as u32);
+        }
+        let words = vec![!0; numbers.len()];
+        let replay = ReplayCase { speed, frames, start, readings: case.readings.clone(), numbers: words };
+        let replayed = self.call(&replay, seed)?;
+        check_content(
+            "numbers of a replay (library) and of a live player (model)",
+            &replayed.left[1],
+            bytes_of(&numbers),
+        )
+        .map_err(|what| difference(replayed.told, replayed.told, what))?;
+        Ok(Agreed { told: started.told, left: Vec::new() })
+    }
+}
+
+/// The frame that stands must show its state, the ring that of frame 1.
+fn shows(states: &[State], player: &Player, shown: &State) -> Result<(), String> {
+    let Player { width, height, number, .. } = *player;
+    let wanted = &states[(number as usize - 1) % states.len()];
+    let pixels = (width * height) as usize;
+    let (picture, palette) = (&wanted.picture[..pixels], &wanted.palette[..PALETTE_BYTES]);
+    check_content(&format!("picture of frame {number}"), &shown.picture[..pixels], picture)
+        .and_then(|()| check_content(&format!("palette of frame {number}"), &shown.palette[..PALETTE_BYTES], palette))
 }
 
 fn difference(found: Told, wanted: Told, what: String) -> Difference {

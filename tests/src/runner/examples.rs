@@ -1,10 +1,11 @@
-//! Document 01's numbers to try, as calls with their answers and all that they leave.
+//! Document 01's numbers to try, and document 02's rules in numbers, as calls with their answers and all that they leave.
 
 use super::calls::{
-    AddCase, Call, CheckCase, CheckTrailerCase, CloseCase, HeaderCase, ListCase, OpenCase, ReadCase, StepCase,
-    WriteCase, WriteTrailerCase,
+    AddCase, Call, CheckCase, CheckTrailerCase, CloseCase, HeaderCase, ListCase, OpenCase, ReadCase, ReplayCase,
+    StartCase, StepCase, TickCase, WriteCase, WriteTrailerCase,
 };
 use super::compare::Comparer;
+use super::lent::bytes_of;
 use super::program::hex;
 use super::told::{Rest, Told};
 use crate::frames::{frame_of, Chunk};
@@ -12,7 +13,7 @@ use crate::model::{kind, PALETTE_BYTES};
 use crate::reels::examples::{blank_reel, zero_until_close, SPEED};
 use crate::states::State;
 use crate::trailers::examples::{BLANK_LISTING, BLANK_TRAILER};
-use flic_boundary::Reel;
+use flic_boundary::{Player, Reel};
 
 /// A call, its answer, and what it leaves in its slices.
 pub struct Example {
@@ -46,7 +47,7 @@ pub fn astray(example: &Example, comparer: Comparer, seed: u64) -> Option<String
     let slices = |slices: &[Vec<u8>]| slices.iter().map(|slice| hex(slice)).collect::<Vec<_>>().join(" ");
     let function = example.call.row().function;
     Some(format!(
-        "document 01's example '{}' is otherwise in flic_{function}\n  lent:   {}\n  found:  {told:?}, {}\n\
+        "the documents' example '{}' is otherwise in flic_{function}\n  lent:   {}\n  found:  {told:?}, {}\n\
          \x20 wanted: {:?}, {}",
         example.name,
         example.call.slices().iter().map(|slice| hex(slice)).collect::<Vec<_>>().join(" "),
@@ -183,6 +184,45 @@ pub fn of_trailers() -> Vec<Example> {
     ]
 }
 
+/// The blank reel's player, of speed 70, with its one frame or its ring standing: started, ticked at the edges of its
+/// clock, and replayed.
+pub fn of_players() -> Vec<Example> {
+    let reel = blank_reel();
+    let filled = || State { picture: vec![FILL; 2], palette: vec![FILL; PALETTE_BYTES + 1] };
+    let (picture, palette) = (vec![0, FILL], [&[0; PALETTE_BYTES][..], &[FILL]].concat());
+    let player = |number, last| Player {
+        width: 1,
+        height: 1,
+        frames: 1,
+        number,
+        place: 144,
+        first_end: 144,
+        speed: SPEED,
+        last,
+    };
+    let blanked = [(1, picture.clone()), (2, palette.clone()), (3, picture), (4, palette)];
+    let start = StartCase { bytes: reel.clone(), now: u32::MAX, first: filled(), second: filled() };
+    let tick = |name, (number, last), now, event, (then, drawn)| {
+        let call = TickCase { player: player(number, last), bytes: reel.clone(), now, shown: filled() };
+        Example::done(name, call, Rest::Event(event), &[(0, bytes_of(&[player(then, drawn)]).to_vec())])
+    };
+    let far = TickCase { player: Player { place: 161, ..player(1, 0) }, bytes: reel.clone(), now: 70, shown: filled() };
+    let readings = vec![0, 69, 138, 139, 138, 1_000];
+    let replay = ReplayCase { speed: SPEED, frames: 2, start: u32::MAX, readings, numbers: vec![9; 7] };
+    let numbers = bytes_of(&[1, 2, 2, 3, 3, 2, 9_u32]).to_vec();
+    vec![
+        Example::done("start", start, Rest::Player(player(1, u32::MAX)), &blanked),
+        tick("one millisecond before the speed", (1, u32::MAX), 68, 0, (1, u32::MAX)),
+        tick("the speed itself, round the roll-over", (1, u32::MAX), 69, 1, (2, 69)),
+        tick("the ring again, late", (2, 0), 1_000, 1, (2, 70)),
+        tick("one millisecond before half the range", (2, 0), (1 << 31) - 1, 1, (2, 70)),
+        tick("half the range", (2, 0), 1 << 31, 2, (2, 1 << 31)),
+        tick("a clock that was set back", (2, 0), u32::MAX, 2, (2, u32::MAX)),
+        Example::done("a place past the bytes", far, Rest::Event(0), &[]).refused(4, 0),
+        Example::done("replay", replay, Rest::Length(6), &[(1, numbers)]),
+    ]
+}
+
 #[cfg(test)]
 mod tests {
     use super::*;
@@ -190,9 +230,9 @@ mod tests {
     use crate::runner::guards::GuardBytes;
 
     #[test]
-    fn the_model_does_as_document_01_says() {
+    fn the_model_does_as_the_documents_say() {
         let comparer = Comparer { subject: &MODEL, lender: &GuardBytes };
-        for examples in [of_reading(), of_writing(), of_reels(), of_trailers()] {
+        for examples in [of_reading(), of_writing(), of_reels(), of_trailers(), of_players()] {
             for example in examples {
                 assert_eq!(astray(&example, comparer, 1), None);
             }

@@ -1,6 +1,6 @@
 //! Slices that stand between guard bytes, so that a write outside them is seen.
 
-use super::lent::{Left, Lender, Lent};
+use super::lent::{alignment, Left, Lender, Lent};
 use crate::rng::{mix, Rng};
 use std::alloc::{alloc_zeroed, Layout};
 use std::ptr::NonNull;
@@ -12,9 +12,11 @@ const BACK_GUARD_MARK: u64 = 0xBAC6;
 pub struct GuardBytes;
 
 impl Lender for GuardBytes {
-    fn lend(&self, slices: &[&[u8]], seed: u64, call: &mut dyn FnMut(&mut Lent)) -> Left {
-        let mut guarded: Vec<Guarded> =
-            (0..).zip(slices).map(|(which, slice)| Guarded::holding(slice, mix(seed, which))).collect();
+    fn lend(&self, slices: &[&[u8]], aligned: &[usize], seed: u64, call: &mut dyn FnMut(&mut Lent)) -> Left {
+        let guarded = |(which, slice): (usize, &&[u8])| {
+            Guarded::holding(slice, alignment(aligned, which), mix(seed, which as u64))
+        };
+        let mut guarded: Vec<Guarded> = slices.iter().enumerate().map(guarded).collect();
         lend(&mut guarded, call);
         let trespass = guarded.iter().position(|slice| !slice.guards_hold());
         Left { slices: guarded.into_iter().map(|slice| slice.content().to_vec()).collect(), trespass }
@@ -35,38 +37,35 @@ pub struct Guarded {
     seed: u64,
 }
 
-/// How many guard bytes stand before the slice.
-fn front_length(seed: u64) -> usize {
-    LEAST_GUARD + (seed % 8) as usize
-}
-
-fn guarded_length(length: usize, seed: u64) -> usize {
-    front_length(seed) + length + LEAST_GUARD
+/// How many guard bytes stand before the slice, which is aligned to 1, 2, 4 or 8 bytes.
+fn front_length(align: usize, seed: u64) -> usize {
+    LEAST_GUARD + (seed % 8) as usize / align * align
 }
 
 impl Guarded {
-    /// A copy of `content`. The seed gives the guard bytes and the alignment.
-    pub fn holding(content: &[u8], seed: u64) -> Guarded {
-        let storage = vec![0; guarded_length(content.len(), seed)];
-        let mut guarded = Guarded::guarding(storage, content.len(), seed);
+    /// A copy of `content`. The seed gives the guard bytes, and where between two aligned places it begins.
+    pub fn holding(content: &[u8], align: usize, seed: u64) -> Guarded {
+        let front = front_length(align, seed);
+        let storage = vec![0; front + content.len() + LEAST_GUARD];
+        let mut guarded = Guarded::guarding(storage, front, content.len(), seed);
         guarded.content_mut().copy_from_slice(content);
         guarded
     }
 
     /// Zeros that take no memory before they are written, if the system gives so many.
     pub fn of_zeros(length: usize, seed: u64) -> Option<Guarded> {
-        let whole = guarded_length(length, seed);
+        let front = front_length(1, seed);
+        let whole = front + length + LEAST_GUARD;
         let layout = Layout::array::<u8>(whole).ok()?;
         // SAFETY: the layout isn't empty, and a vector of bytes may own what the global allocator zeroed for it.
         let storage = unsafe {
             let pointer = NonNull::new(alloc_zeroed(layout))?;
             Vec::from_raw_parts(pointer.as_ptr(), whole, whole)
         };
-        Some(Guarded::guarding(storage, length, seed))
+        Some(Guarded::guarding(storage, front, length, seed))
     }
 
-    fn guarding(mut storage: Vec<u8>, length: usize, seed: u64) -> Guarded {
-        let front = front_length(seed);
+    fn guarding(mut storage: Vec<u8>, front: usize, length: usize, seed: u64) -> Guarded {
         Rng::new(seed).fill(&mut storage[..front]);
         Rng::new(mix(seed, BACK_GUARD_MARK)).fill(&mut storage[front + length..]);
         Guarded { storage, front, length, seed }
@@ -102,9 +101,10 @@ impl Guarded {
 mod tests {
     use super::super::lent::Side;
     use super::*;
+    use std::collections::BTreeSet;
 
     fn flipped_at(offset: usize) -> Guarded {
-        let mut guarded = Guarded::holding(&[1, 2, 3], 5);
+        let mut guarded = Guarded::holding(&[1, 2, 3], 1, 5);
         let byte = &mut guarded.storage[offset];
         *byte = !*byte;
         guarded
@@ -112,7 +112,7 @@ mod tests {
 
     #[test]
     fn a_write_outside_is_seen_and_one_inside_is_not() {
-        let guarded = Guarded::holding(&[1, 2, 3], 5);
+        let guarded = Guarded::holding(&[1, 2, 3], 1, 5);
         let inside = guarded.front..guarded.front + 3;
         assert!(guarded.guards_hold());
         for offset in 0..guarded.storage.len() {
@@ -123,7 +123,7 @@ mod tests {
     #[test]
     fn trespasses_are_told_of_their_slice() {
         let left = |deed: &mut dyn FnMut(&mut Lent)| {
-            let Left { slices, trespass } = GuardBytes.lend(&[&[], &[1], &[2, 3]], 6, deed);
+            let Left { slices, trespass } = GuardBytes.lend(&[&[], &[1], &[2, 3]], &[], 6, deed);
             (slices, trespass)
         };
         let same = || vec![vec![], vec![1], vec![2, 3]];
@@ -134,7 +134,16 @@ mod tests {
     }
 
     #[test]
+    fn slices_are_aligned_as_they_must_be() {
+        let offsets = |align| {
+            let offset = |seed| Guarded::holding(&[0; 8], align, seed).pointer() as usize % 8;
+            (0..8).map(offset).collect::<BTreeSet<usize>>()
+        };
+        assert_eq!((offsets(1).len(), offsets(4), offsets(8)), (8, [0, 4].into(), [0].into()));
+    }
+
+    #[test]
     fn an_empty_slice_is_not_null() {
-        assert!(!Guarded::holding(&[], 1).pointer().is_null());
+        assert!(!Guarded::holding(&[], 1, 1).pointer().is_null());
     }
 }

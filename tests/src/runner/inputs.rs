@@ -1,8 +1,8 @@
 //! The inputs of a run: cases, each a call or some calls that belong together, and families that make them from seeds.
 
 use super::calls::{
-    AddCase, Call, CheckCase, CheckTrailerCase, CloseCase, HeaderCase, ListCase, OpenCase, ReadCase, RewriteCase,
-    StepCase, WriteCase, WriteTrailerCase,
+    AddCase, Call, CheckCase, CheckTrailerCase, CloseCase, HeaderCase, ListCase, OpenCase, ReadCase, ReplayCase,
+    RewriteCase, StartCase, StepCase, TickCase, WriteCase, WriteTrailerCase,
 };
 use crate::rng::{mix, Rng};
 use crate::states::State;
@@ -19,6 +19,15 @@ pub struct PlayCase {
 /// A whole-reel check that is made before and after a trailer is written.
 #[derive(Clone, Debug, PartialEq, Eq)]
 pub struct AroundCase(pub CheckCase);
+
+/// A player that is started and ticked with these readings, and a replay of them: each frame must show its state, and
+/// the replay tell the frames.
+#[derive(Clone, Debug, PartialEq, Eq)]
+pub struct LiveCase {
+    pub start: StartCase,
+    pub readings: Vec<u32>,
+    pub states: Vec<State>,
+}
 
 macro_rules! cases {
     ($($name:ident($case:ident),)*) => {
@@ -50,6 +59,10 @@ cases! {
     Header(HeaderCase),
     Step(StepCase),
     Around(AroundCase),
+    Start(StartCase),
+    Tick(TickCase),
+    Replay(ReplayCase),
+    Live(LiveCase),
 }
 
 impl Case {
@@ -68,6 +81,9 @@ impl Case {
             Case::List(call) => call,
             Case::Header(call) => call,
             Case::Step(call) => call,
+            Case::Start(call) | Case::Live(LiveCase { start: call, .. }) => call,
+            Case::Tick(call) => call,
+            Case::Replay(call) => call,
             Case::Play(_) => return None,
         })
     }

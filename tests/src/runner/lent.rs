@@ -1,6 +1,35 @@
-//! What a call is lent: slices as a caller of C hands them over, and the two sides of each that it must not touch.
+//! What a call is lent: slices as a caller of C hands them over, and the two sides of each that it must not touch. All
+//! are slices of bytes here; some are words or a record to the call.
 
+use flic_boundary::Player;
 use std::marker::PhantomData;
+
+/// What is lent besides bytes.
+///
+/// # Safety
+///
+/// Any bits are a value, and no byte of it is a gap.
+pub unsafe trait Plain {}
+
+// SAFETY: a number.
+unsafe impl Plain for u32 {}
+// SAFETY: numbers side by side, with no gap between them or after them.
+unsafe impl Plain for Player {}
+const _: () = assert!(size_of::<Player>() == 6 * size_of::<u64>() + 2 * size_of::<u32>());
+
+/// The bytes of values.
+pub fn bytes_of<T: Plain>(values: &[T]) -> &[u8] {
+    // SAFETY: none of them is a gap.
+    unsafe { std::slice::from_raw_parts(values.as_ptr().cast(), size_of_val(values)) }
+}
+
+/// The values that stand in lent bytes, which must be aligned for them.
+pub fn values_in<T: Plain>(bytes: &mut [u8]) -> &mut [T] {
+    // SAFETY: any bits are a value.
+    let (before, values, after) = unsafe { bytes.align_to_mut() };
+    assert!(before.is_empty() && after.is_empty(), "whole values are lent, where such may stand");
+    values
+}
 
 /// A side of a slice.
 #[derive(Clone, Copy, Debug, PartialEq, Eq)]
@@ -81,5 +110,11 @@ pub struct Left {
 
 /// A way of lending: copies of slices for the time of a call, with what shows or stops a trespass.
 pub trait Lender {
-    fn lend(&self, slices: &[&[u8]], seed: u64, call: &mut dyn FnMut(&mut Lent)) -> Left;
+    /// Lends copies of these slices, of which some are aligned: the first, the second, .., as far as `aligned` tells.
+    fn lend(&self, slices: &[&[u8]], aligned: &[usize], seed: u64, call: &mut dyn FnMut(&mut Lent)) -> Left;
+}
+
+/// How a slice is aligned.
+pub fn alignment(aligned: &[usize], which: usize) -> usize {
+    aligned.get(which).copied().unwrap_or(1)
 }

@@ -1,9 +1,10 @@
-//! What a run has met: answers, call by call, the kinds of frames, and the lines of listings; and what it should have
-//! met and didn't.
+//! What a run has met: answers, call by call, the kinds of frames, the lines of listings, and what ticks did; and what it
+//! should have met and didn't.
 
-use super::calls::Row;
+use super::calls::{Row, PLAIN};
 use super::compare::Agreed;
 use super::inputs::Case;
+use super::told::Rest;
 use crate::frames::{is_known, UNKNOWN};
 use crate::model::{size_at, word_at, FRAME_HEADER, MOST_DEPTH};
 use std::collections::BTreeMap;
@@ -12,15 +13,20 @@ const PROGRESS: u64 = 20_000;
 
 /// A row for cases that are more than a call, and for what a listing's only or first line tells.
 const fn besides(name: &'static str, unit: &'static str, numbers: &'static [u32]) -> Row {
-    Row { function: name, name, unit, lends: &[], numbers, kinds: &[], verb: "" }
+    Row { function: name, name, unit, numbers, ..PLAIN }
 }
 
 /// Reels that were played.
 pub const PLAY: Row = besides("play", "reels of three laps", &[0]);
 /// A whole-reel check before and after a trailer was written: done, damaged in several ways, astray.
 pub const AROUND: Row = besides("check of a reel before and after its trailer", "reels", &[0, 4, 7, 9, 16]);
+/// Players that were started and ticked, and a replay of the same readings.
+pub const LIVE: Row = besides("live player and replay", "lists of readings", &[0]);
 /// Whole listings: one that ends with `ok` is 0, a line `refused N PLACE` is N.
 pub const LISTING: Row = besides("listing", "texts", &[0, 2, 3, 4, 5, 6, 14, 15]);
+
+/// What a tick can do, by its number.
+const EVENTS: [&str; 3] = ["nothing due", "drawn", "set back"];
 
 struct Tally {
     row: &'static Row,
@@ -61,19 +67,22 @@ pub struct Met {
     listings: Tally,
     /// How many lines of each depth were listed.
     depths: [u64; MOST_DEPTH + 1],
+    /// How many ticks did each thing that one can do.
+    events: [u64; EVENTS.len()],
 }
 
 impl Met {
     pub fn nothing(rows: &[&'static Row]) -> Met {
         let tally = |row| Tally { row, calls: 0, numbers: BTreeMap::new(), kinds: BTreeMap::new() };
         let tallies = rows.iter().map(|row| tally(*row)).collect();
-        Met { tallies, listings: tally(&LISTING), depths: [0; MOST_DEPTH + 1] }
+        Met { tallies, listings: tally(&LISTING), depths: [0; MOST_DEPTH + 1], events: [0; EVENTS.len()] }
     }
 
     pub fn count(&mut self, case: &Case, agreed: &Agreed) {
         let row = match case {
             Case::Play(_) => &PLAY,
             Case::Around(_) => &AROUND,
+            Case::Live(_) => &LIVE,
             _ => case.call().expect("all other cases are one call").row(),
         };
         let tally = self.tallies.iter_mut().find(|tally| tally.row.function == row.function);
@@ -87,6 +96,9 @@ impl Met {
             if let Case::List(_) = case {
                 let text = &agreed.left[1][..agreed.told.length() as usize];
                 self.count_lines(std::str::from_utf8(text).expect("a listing is text"));
+            }
+            if let Rest::Event(event) = agreed.told.rest {
+                self.events[event as usize] += 1;
             }
         }
     }
@@ -105,7 +117,11 @@ impl Met {
     }
 
     fn lists(&self) -> bool {
-        self.tallies.iter().any(|tally| tally.row.function == "list")
+        self.makes("list")
+    }
+
+    fn makes(&self, function: &str) -> bool {
+        self.tallies.iter().any(|tally| tally.row.function == function)
     }
 
     pub fn calls(&self) -> u64 {
@@ -118,9 +134,12 @@ impl Met {
             self.listings.print();
             (0..).zip(self.depths).for_each(|(depth, lines): (usize, u64)| println!("  depth {depth}    {lines}"));
         }
+        if self.makes("tick") {
+            EVENTS.iter().zip(self.events).for_each(|(event, ticks)| println!("  {event:11} {ticks}"));
+        }
     }
 
-    /// The answers, kinds, lines and depths that should have been met and weren't, in words.
+    /// The answers, kinds, lines, depths and events that should have been met and weren't, in words.
     pub fn missing(&self) -> Vec<String> {
         let mut missing = Vec::new();
         for Tally { row, numbers, kinds, .. } in self.tallies.iter().chain(self.lists().then_some(&self.listings)) {
@@ -131,6 +150,8 @@ impl Met {
         }
         let unlisted = (0..).zip(self.depths).filter(|(_, lines)| self.lists() && *lines == 0);
         missing.extend(unlisted.map(|(depth, _): (usize, u64)| format!("depth {depth}")));
+        let undone = EVENTS.iter().zip(self.events).filter(|(_, ticks)| self.makes("tick") && *ticks == 0);
+        missing.extend(undone.map(|(event, _)| format!("a tick: {event}")));
         missing
     }
 }

@@ -1,4 +1,4 @@
-//! A test program: its self-check, document 01's examples, then the families of inputs, each case compared.
+//! A test program: its self-check, the documents' examples, then the families of inputs, each case compared.
 
 use super::calls::{Call, Row};
 use super::command::{fail, task_or_exit, Task};
@@ -93,7 +93,7 @@ impl Program {
         if let Some(what) = self.examples.iter().find_map(|example| astray(example, LIBRARY, base)) {
             fail(&format!("{}: {what}", self.name), "make this call alone and follow the first byte that differs");
         }
-        println!("{}: {} examples of document 01 are as it says", self.name, self.examples.len());
+        println!("{}: {} examples are as the documents say", self.name, self.examples.len());
     }
 
     fn self_check(&self, base: u64) {
@@ -129,6 +129,10 @@ fn print_case(program: &str, case: &Case) {
             println!("{program}: a difference in playing {} frames", case.states.len());
             println!("  {} by {}", case.width, case.height);
             print_bytes("reel", &case.bytes);
+        }
+        (Case::Live(case), _) => {
+            print_call(program, &case.start);
+            println!("  then ticks at readings {:?}", &case.readings[..case.readings.len().min(MOST_PRINTED)]);
         }
         (_, Some(call)) => print_call(program, call),
         _ => {}

@@ -1,7 +1,7 @@
 //! What a call answers, whichever it is: the number and the place that all give, and what goes with them.
 
-use crate::model::{FileHeader, Outcome, Refusal, Span as Chunk};
-use flic_boundary::{Answer, Header, Reel, ReelAnswer, Span, Written};
+use crate::model::{Event, FileHeader, Outcome, Refusal, Span as Chunk};
+use flic_boundary::{Answer, Header, Player, PlayerAnswer, Reel, ReelAnswer, Span, Ticked, Written};
 
 #[derive(Clone, Copy, Debug, PartialEq, Eq)]
 pub struct Told {
@@ -16,8 +16,20 @@ pub enum Rest {
     Nothing,
     Length(u64),
     Record(Reel),
-    Header { width: u64, height: u64, frames: u64, size: u64, speed: u32 },
-    Span { from: u64, end: u64 },
+    Header {
+        width: u64,
+        height: u64,
+        frames: u64,
+        size: u64,
+        speed: u32,
+    },
+    Span {
+        from: u64,
+        end: u64,
+    },
+    Player(Player),
+    /// What a tick did.
+    Event(u32),
 }
 
 impl Told {
@@ -73,6 +85,18 @@ impl From<Span> for Told {
     }
 }
 
+impl From<PlayerAnswer> for Told {
+    fn from(PlayerAnswer { number, place, player }: PlayerAnswer) -> Told {
+        Told { number, place, rest: Rest::Player(player) }
+    }
+}
+
+impl From<Ticked> for Told {
+    fn from(Ticked { number, place, event }: Ticked) -> Told {
+        Told { number, place, rest: Rest::Event(event) }
+    }
+}
+
 impl From<Result<(), Refusal>> for Told {
     fn from(answer: Result<(), Refusal>) -> Told {
         Told::of(answer, Rest::Nothing, |()| Rest::Nothing)
@@ -108,5 +132,17 @@ impl From<Result<Chunk, Refusal>> for Told {
     fn from(answer: Result<Chunk, Refusal>) -> Told {
         let refused = Rest::Span { from: 0, end: 0 };
         Told::of(answer, refused, |Chunk { start, end }| Rest::Span { from: start as u64, end: end as u64 })
+    }
+}
+
+impl From<Result<Player, Refusal>> for Told {
+    fn from(answer: Result<Player, Refusal>) -> Told {
+        Told::of(answer, Rest::Player(Player::default()), Rest::Player)
+    }
+}
+
+impl From<Result<Event, Refusal>> for Told {
+    fn from(answer: Result<Event, Refusal>) -> Told {
+        Told::of(answer, Rest::Event(0), |event| Rest::Event(event as u32))
     }
 }

@@ -4,7 +4,7 @@ use super::calls::{Call, ROWS};
 use super::compare::{Comparer, Subject};
 use super::guards::GuardBytes;
 use super::inputs::Inputs;
-use super::lent::{Lent, Side};
+use super::lent::{alignment, Lent, Side};
 use super::told::Told;
 use crate::model::{Model, MODEL, PALETTE_BYTES};
 
@@ -64,7 +64,7 @@ pub enum Deed {
     WritesBeside(Side),
     Changes,
     ChangesWhenRefused,
-    /// Changes a byte past those that the call says it wrote.
+    /// Changes a byte past the bytes or words that the call says it wrote.
     ChangesPast,
     /// Changes the excess of a palette.
     ChangesExcess,
@@ -86,12 +86,12 @@ impl Subject for Trespasser {
         }
         let lends = call.row().lends;
         let which = lends.iter().position(|name| *name == self.slice).expect("a slice of this entry point");
-        let length = lent.length(which);
+        let (length, word) = (lent.length(which), alignment(call.row().aligned, which) as u64);
         match self.deed {
             Deed::WritesBeside(side) => lent.spoil_beside(which, side),
             Deed::Changes => lent.spoil_last(which),
             Deed::ChangesWhenRefused if told.number != 0 => lent.spoil_last(which),
-            Deed::ChangesPast if told.number == 0 && told.length() < length as u64 => lent.spoil_last(which),
+            Deed::ChangesPast if told.number == 0 && told.length() * word < length as u64 => lent.spoil_last(which),
             Deed::ChangesExcess if length > PALETTE_BYTES => lent.spoil_last(which),
             _ => {}
         }

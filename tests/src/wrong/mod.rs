@@ -1,15 +1,17 @@
-//! What is wrong on purpose, and in which calls it must be seen: other readings of document 01, and trespasses.
+//! What is wrong on purpose, and in which calls it must be seen: other readings of the documents, and trespasses.
 
 mod frames;
 mod headers;
 mod house;
 mod listings;
+mod players;
 mod reels;
 mod top_level;
 mod trailers;
 
 use crate::cases::{FAMILIES, SINGLE};
 use crate::model::{Model, MODEL};
+use crate::players::families as player_families;
 use crate::reels::families as reel_families;
 use crate::runner::calls::Call;
 use crate::runner::compare::Subject;
@@ -19,8 +21,9 @@ use crate::runner::told::{Rest, Told};
 use crate::runner::wrongs::{models, see, Deed, Telling, Trespasser, Wrong};
 use crate::trailers::families as trailer_families;
 use crate::write_cases::{REWRITE_FAMILIES, SINGLE_REWRITES, SINGLE_WRITES, WRITE_FAMILIES};
+use flic_boundary::Player;
 
-/// For a rule of a part of document 01: readings that take this rule otherwise, and all others as they stand.
+/// For a rule of a part of the documents: readings that take this rule otherwise, and all others as they stand.
 macro_rules! rules {
     ($part:ident; $($name:ident: $rule:ident($($argument:ident: $type:ty),*) -> $result:ty;)*) => {
         $(struct $name(fn($($type),*) -> $result);
@@ -104,6 +107,23 @@ pub const TRAILERS: [Trespass; 14] = [
     ("a step that writes before the file", "next_frame", "reel", BEFORE),
 ];
 
+pub const PLAYERS: [Trespass; 14] = [
+    ("a start that writes before the first picture", "start_player", "first picture", BEFORE),
+    ("a start that writes after the second palette", "start_player", "second palette", AFTER),
+    ("a start that changes the reel", "start_player", "reel", Deed::Changes),
+    ("a start that changes the palette's excess", "start_player", "first palette", Deed::ChangesExcess),
+    ("a tick that writes before the record", "tick", "player", BEFORE),
+    ("a tick that writes after the record", "tick", "player", AFTER),
+    ("a tick that changes the record when refused", "tick", "player", Deed::ChangesWhenRefused),
+    ("a tick that changes the picture when refused", "tick", "picture", Deed::ChangesWhenRefused),
+    ("a tick that changes the palette's excess", "tick", "palette", Deed::ChangesExcess),
+    ("a tick that changes the reel", "tick", "reel", Deed::Changes),
+    ("a replay that changes the readings", "replay", "readings", Deed::Changes),
+    ("a replay that writes after the numbers", "replay", "numbers", AFTER),
+    ("a replay that changes a number when refused", "replay", "numbers", Deed::ChangesWhenRefused),
+    ("a replay that changes a word past the numbers", "replay", "numbers", Deed::ChangesPast),
+];
+
 pub fn trespassers(all: &[Trespass]) -> Vec<Wrong> {
     let wrong = |(name, function, slice, deed): &Trespass| {
         Wrong::of(*name, Trespasser { function, slice, deed: *deed }, &[function])
@@ -133,6 +153,37 @@ pub fn tellers() -> Vec<Wrong> {
             "a refused step that tells a span",
             Telling { function: "next_frame", altered: span },
             &["next_frame"],
+        ),
+    ]
+}
+
+/// The same of players.
+pub fn player_tellers() -> Vec<Wrong> {
+    let started = |told: Told| match told.rest {
+        Rest::Player(player) if told.number == 16 => {
+            Told { rest: Rest::Player(Player { frames: 1, ..player }), ..told }
+        }
+        _ => told,
+    };
+    let ticked = |told: Told| match told.number {
+        0 => told,
+        _ => Told { rest: Rest::Event(1), ..told },
+    };
+    let replayed = |told: Told| match told.number {
+        3 => Told { rest: Rest::Length(1), ..told },
+        _ => told,
+    };
+    vec![
+        Wrong::of(
+            "a refused start that gives a record",
+            Telling { function: "start_player", altered: started },
+            &["start_player"],
+        ),
+        Wrong::of("a refused tick that tells a drawn frame", Telling { function: "tick", altered: ticked }, &["tick"]),
+        Wrong::of(
+            "a refused replay that tells a length",
+            Telling { function: "replay", altered: replayed },
+            &["replay"],
         ),
     ]
 }
@@ -181,14 +232,18 @@ pub fn seen_in_reels(base: u64) -> Vec<Wrong> {
         with!(checking: reels::CHECKING),
         with!(building: reels::BUILDING),
     ];
-    let half_read = of_frames().into_iter().filter(|(name, _)| name == "KeepsHalfReadFrame").collect();
-    let playing: [Models; 2] = [with!(playing: reels::PLAYING), half_read];
+    let playing: [Models; 2] = [with!(playing: reels::PLAYING), named(&["KeepsHalfReadFrame"], of_frames())];
     let mut all = models(wrong.concat(), &["check_reel", "open_reel", "add_frame", "close_reel"]);
     all.extend(in_call("check_reel", playing.concat()));
     all.extend(in_call("close_reel", playing.concat()));
     all.extend(trespassers(&REELS));
     see(&mut all, &listed(&reel_families::FAMILIES[..reel_families::SMALL]), 100, base);
     all
+}
+
+/// Those of some models that have these names.
+fn named(names: &[&str], models: Models) -> Models {
+    models.into_iter().filter(|(name, _)| names.contains(&&name[..])).collect()
 }
 
 /// Wrong models that must be seen in one call, by names that tell it.
@@ -218,5 +273,35 @@ pub fn seen_in_trailers(base: u64) -> Vec<Wrong> {
         all.extend(in_call(call, wrong));
     }
     see(&mut all, &listed(&trailer_families::FAMILIES), 100, base);
+    all
+}
+
+/// A wrong clock must show in a tick and in a replay, a wrong check in a start, a wrong step to the next frame in both.
+pub fn seen_in_players(base: u64) -> Vec<Wrong> {
+    let clocks: Models = with!(players: players::CLOCKS);
+    let chunks: Models = with!(top_level: top_level::CHUNKS);
+    let playing: Models = with!(playing: reels::PLAYING);
+    let half_read = named(&["KeepsHalfReadFrame"], of_frames());
+    let frame_counts = named(&["HeaderOf4001Frames", "HeaderOfNoFrames"], with!(headers: headers::ACCEPTED));
+    let fields = ["SlicesBeforeFlags", "SpeedReadAsWord", "SpeedReadAtOffset18", "RingCountedAsFrame", "WidthAsHeight"];
+    let starts: [Models; 8] = [
+        with!(players: players::STARTS),
+        with!(headers: headers::ACCEPTED),
+        named(&fields, with!(headers: headers::READ, headers::REELS)),
+        chunks.clone(),
+        with!(top_level: top_level::WALKS),
+        with!(checking: reels::CHECKING),
+        playing.clone(),
+        half_read.clone(),
+    ];
+    let ticks: [Models; 5] =
+        [clocks.clone(), with!(players: players::TICKS), chunks, named(&["PlaceWithinFrame"], playing), half_read];
+    let replays: [Models; 3] = [clocks, with!(players: players::REPLAYS), frame_counts];
+    let mut all = in_call("start_player", starts.concat());
+    all.extend(in_call("tick", ticks.concat()));
+    all.extend(in_call("replay", replays.concat()));
+    all.extend(trespassers(&PLAYERS));
+    all.extend(player_tellers());
+    see(&mut all, &listed(&player_families::FAMILIES[..player_families::SMALL]), 100, base);
     all
 }
