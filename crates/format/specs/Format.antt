@@ -1,5 +1,5 @@
 -- The magic of a file, the types of its chunks, the kinds of sub-chunks, by the names of document 001, and the levels of kind 11.
-use Prim.Native.Nat.{ℕ, _*_}
+use Prim.Native.Nat.{ℕ, _+_, _*_, _/_}
 
 -- hex AF12
 abbrev pub FLC-MAGIC : ℕ
@@ -42,6 +42,6 @@ FLI-PSTAMP = 18
 abbrev pub maxLevel : ℕ
 maxLevel = 63
 
--- "Kind 11 stores each component times 4": one of 64 levels as one of 256
+-- one of 64 levels as one of 256, so that 63 is 255 (document 02, Req 02): "A 64-level component c becomes 4c plus c divided by 16, rounded down"
 unfoldable pub raised : ℕ → ℕ
-raised x = x * 4
+raised c = 4 * c + c / 16

@@ -47,7 +47,7 @@ pub fn raised_level(x: u8) -> u8
     requires { ⌜ x ≤ maxLevel ⌝ }
     ensures { λ r. ⌜ r ≡ raised x ⌝ }
 {
-    x * 4
+    4 * x + x / 16
 }
 
 // The width and height of a picture, as a caller gives them.

@@ -111,7 +111,8 @@ numbers =
     -- "Row skip FF FF on height 1 is 10"
     ∷ reads 1 1 FLI-SS2 (0x01 ∷ 0x00 ∷ 0xff ∷ 0xff ∷ []) (refusedWith 10)
     -- beside the paper's numbers, so that of each kind something is accepted: 11, 12, 13, 15 and 16; and a level over 63 is 13
-    ∷ reads 1 1 FLI-COLOR (0x01 ∷ 0x00 ∷ 0x00 ∷ 0x01 ∷ 63 ∷ 32 ∷ 1 ∷ []) (setsColours 0 (252 ∷ 128 ∷ 4 ∷ []))
+    -- "0, 31, 32, 63 give 0, 125, 130, 255" (document 02, Req 02)
+    ∷ reads 1 1 FLI-COLOR (0x01 ∷ 0x00 ∷ 0x00 ∷ 0x02 ∷ 0 ∷ 31 ∷ 32 ∷ 63 ∷ 15 ∷ 16 ∷ []) (setsColours 0 (0 ∷ 125 ∷ 130 ∷ 255 ∷ 60 ∷ 65 ∷ []))
     ∷ reads 1 1 FLI-COLOR (0x01 ∷ 0x00 ∷ 0x00 ∷ 0x01 ∷ 64 ∷ 32 ∷ 1 ∷ []) (refusedWith 13)
     ∷ reads 4 1 FLI-LC (0x00 ∷ 0x00 ∷ 0x01 ∷ 0x00 ∷ 0x01 ∷ 0x01 ∷ 0x00 ∷ 0x02 ∷ 5 ∷ 6 ∷ []) (setsPixels 1 (5 ∷ 6 ∷ []))
     ∷ reads 2 1 FLI-BLACK [] (setsPixels 0 (0 ∷ 0 ∷ []))
