@@ -16,11 +16,6 @@ class FFmpeg(Outside):
         super().__init__(reel.width, reel.height)
         self.row_bytes = row_bytes
 
-    def level64(self, component):
-        if component > 15:
-            self.touch("levels-64")
-        return 4 * component + component // 16
-
     def last_pixel(self, row, pixel):
         if self.row_bytes == self.width:
             super().last_pixel(row, pixel)

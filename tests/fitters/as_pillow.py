@@ -30,6 +30,11 @@ class Pillow(Outside):
                 return
             at += size
 
+    def level64(self, component):
+        if component > 15:
+            self.touch("levels-64")
+        return 4 * component
+
     def frame(self, data):
         self.palette = self.true_palette
         shown = self.sub_chunks(data)

@@ -39,7 +39,7 @@ class Document:
         return component
 
     def level64(self, component):
-        return 4 * component
+        return 4 * component + component // 16
 
     def colour(self, body, level):
         at, index = 2, 0

@@ -9,7 +9,6 @@ RULES = {
         "speed-over-2000": (ORDER, "text-slow"),
         "last-pixel": (PICTURE, "edges-4-odd"),
         "copy-size": (PICTURE, "copy-1"),
-        "levels-64": (PALETTE, "levels-2"),
         "lc-rows": (PICTURE, "lc-1"),
         "lc-below": (BOTH, "lc_below-0"),
         "f5fa-frame": (BOTH, "top-f5fa"),
@@ -25,6 +24,7 @@ RULES = {
     "pillow": {
         "no-ring": (PICTURE, "blocks-1-even"),
         "first-palette": (PALETTE, "fade-4-odd"),
+        "levels-64": (PALETTE, "levels-2"),
         "ten-bytes": (PICTURE, "black-1"),
         "unknown-kind": (PICTURE, "unknown-2"),
         "lc-rows": (PICTURE, "lc-1"),

@@ -130,10 +130,10 @@ pub trait Frames {
         Ok(())
     }
 
-    /// "Kind 11 stores each component times 4."
+    /// "A 64-level component c becomes 4c plus c divided by 16, rounded down" (document 02, Req 02).
     fn component(&self, kind: u16, level: u8) -> u8 {
         match kind {
-            kind::COLOR => level.wrapping_mul(4),
+            kind::COLOR => level.wrapping_mul(4).wrapping_add(level / 16),
             _ => level,
         }
     }
@@ -475,7 +475,9 @@ mod tests {
         assert_eq!(number_of(kind::COLOR, &[1, 0, 0, 1, 0, 64, 0], 1, 1), 13);
         assert_eq!(number_of(kind::COLOR256, &[1, 0, 0, 1, 0, 64, 0], 1, 1), 0);
         let read = read_body(kind::COLOR, &[1, 0, 1, 1, 0, 1, 63], 1, 1);
-        assert_eq!(read.palette[..7], [FILL, FILL, FILL, 0, 4, 252, FILL]);
+        assert_eq!(read.palette[..7], [FILL, FILL, FILL, 0, 4, 255, FILL]);
+        let read = read_body(kind::COLOR, &[1, 0, 0, 1, 31, 32, 16], 1, 1);
+        assert_eq!(read.palette[..3], [125, 130, 65]);
     }
 
     #[test]

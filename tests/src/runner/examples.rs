@@ -2,7 +2,7 @@
 
 use super::calls::{
     AddCase, Call, CheckCase, CheckTrailerCase, CloseCase, HeaderCase, ListCase, OpenCase, ReadCase, ReplayCase,
-    StartCase, StepCase, TickCase, WriteCase, WriteTrailerCase,
+    RewriteCase, StartCase, StepCase, TickCase, WriteCase, WriteTrailerCase,
 };
 use super::compare::Comparer;
 use super::lent::bytes_of;
@@ -71,6 +71,28 @@ fn body_gives(name: &'static str, kind: u16, body: &[u8], picture: &[u8]) -> Exa
     read_gives(name, frame_of(&[Chunk { kind, body: body.to_vec() }]), picture.len(), picture)
 }
 
+/// What the 64 levels of kind 11 become (document 02, Req 02), of which it names the first, 31, 32 and the last.
+#[rustfmt::skip]
+const RAISED: [u8; 64] = [
+    0, 4, 8, 12, 16, 20, 24, 28, 32, 36, 40, 44, 48, 52, 56, 60,
+    65, 69, 73, 77, 81, 85, 89, 93, 97, 101, 105, 109, 113, 117, 121, 125,
+    130, 134, 138, 142, 146, 150, 154, 158, 162, 166, 170, 174, 178, 182, 186, 190,
+    195, 199, 203, 207, 211, 215, 219, 223, 227, 231, 235, 239, 243, 247, 251, 255,
+];
+
+/// A colour chunk of entries 0 on, and the frame of it alone.
+fn colours(kind: u16, components: &[u8]) -> Vec<u8> {
+    let count = (components.len() / 3) as u8;
+    frame_of(&[Chunk { kind, body: [&[1, 0, 0, count], components].concat() }])
+}
+
+/// All 64 levels as components of 22 colours, with 0 and 63 once more, and what they become.
+fn all_levels() -> (Vec<u8>, Vec<u8>) {
+    let levels: Vec<u8> = (0..64).chain([0, 63]).collect();
+    let raised = levels.iter().map(|level| RAISED[usize::from(*level)]).collect();
+    (levels, raised)
+}
+
 const FOUR_BY_TWO: [u8; 28] =
     [0x1C, 0, 0, 0, 0xFA, 0xF1, 1, 0, 0, 0, 0, 0, 0, 0, 0, 0, 0x0C, 0, 0, 0, 0x0F, 0, 1, 4, 0, 1, 4, 5];
 
@@ -80,7 +102,11 @@ pub fn of_reading() -> Vec<Example> {
     let mut last_colour = body_gives("skip 255 count 1", kind::COLOR256, &[1, 0, 255, 1, 1, 2, 3], &[FILL]);
     last_colour.left[2][PALETTE_BYTES - 3..].copy_from_slice(&[1, 2, 3]);
     let past = &[1, 0, 255, 2, 1, 2, 3, 4, 5, 6];
+    let (levels, raised) = all_levels();
+    let mut every_level = read_gives("all 64 levels", colours(kind::COLOR, &levels), 1, &[FILL]);
+    every_level.left[2][..raised.len()].copy_from_slice(&raised);
     vec![
+        every_level,
         body_gives("1 1 2", kind::BRUN, &[2, 2, 1, 1, 2], &[1, 1, 2]),
         body_gives("1 2 2 3", kind::BRUN, &[1, 0xFC, 1, 2, 2, 3], &[1, 2, 2, 3]),
         body_gives("130 nines", kind::BRUN, &[2, 0x7F, 9, 3, 9], &[9; 130]),
@@ -104,6 +130,18 @@ fn write_gives(name: &'static str, width: usize, previous: &[u8], next: &[u8], c
     let left = [&frame[..], &out[frame.len()..]].concat();
     let case = WriteCase { width: width as u64, height, previous, next, out };
     Example::done(name, case, Rest::Length(frame.len() as u64), &[(4, left)])
+}
+
+/// A frame of kind 11 in house form: the same colours as kind 4.
+fn levels_rewritten() -> Example {
+    let (levels, raised) = all_levels();
+    let house = colours(kind::COLOR256, &raised);
+    let (out, blank) = (vec![0xEE; 1000], State::blank(1));
+    let next = [&raised[..], &blank.palette[raised.len()..]].concat();
+    let left = [&house[..], &out[house.len()..]].concat();
+    let bytes = colours(kind::COLOR, &levels);
+    let case = RewriteCase { bytes, width: 1, height: 1, previous: blank.clone(), work: blank, out };
+    Example::done("all 64 levels, rewritten", case, Rest::Length(house.len() as u64), &[(4, next), (5, left)])
 }
 
 /// Rows that BRUN packs best, coming after a picture of which no pixel stays.
@@ -136,7 +174,27 @@ pub fn of_writing() -> Vec<Example> {
             &[&no_neighbours_equal, &[5; 129]],
             &[&[2, 1, 0, 0x80], &no_neighbours_equal[1..], &[2, 0x7F, 5, 2, 5]].concat(),
         ),
+        levels_rewritten(),
     ]
+}
+
+/// A check of a reel of two frames that sets entry 0 by kind 4, back to black, and by kind 11 in its ring.
+fn ring_of_levels(name: &'static str, first: [u8; 3], ring: [u8; 3]) -> Example {
+    let frames = [colours(kind::COLOR256, &first), colours(kind::COLOR256, &[0; 3]), colours(kind::COLOR, &ring)];
+    let mut bytes = [&blank_reel()[..128], &frames.concat()].concat();
+    let size = bytes.len() as u32;
+    bytes[..4].copy_from_slice(&size.to_le_bytes());
+    bytes[6] = 2;
+    let shows = |colour: &[u8]| [colour, &[0; PALETTE_BYTES - 3]].concat();
+    let ring = ring.map(|level| RAISED[usize::from(level)]);
+    let place = u64::from(size) - frames[2].len() as u64;
+    let case = CheckCase { bytes, first: State::blank(1), second: State::blank(1) };
+    let example = Example::done(name, case, Rest::Nothing, &[(2, shows(&ring)), (4, shows(&first))]);
+    if ring == first {
+        example
+    } else {
+        example.refused(16, place)
+    }
 }
 
 /// The blank reel of 1 by 1: opened, added to, closed and checked.
@@ -158,6 +216,8 @@ pub fn of_reels() -> Vec<Example> {
         Example::done("1 by 1 blank reel, added to", add, rest(1, 144, 0), &[(0, added)]),
         Example::done("1 by 1 blank reel, closed", close, rest(1, 160, 1), &[(0, whole)]),
         Example::done("1 by 1 blank reel, checked", check, Rest::Nothing, &[]),
+        ring_of_levels("a ring of levels that leads back", [255, 125, 130], [63, 31, 32]),
+        ring_of_levels("a ring of levels times 4", [252, 124, 128], [63, 31, 32]),
     ]
 }
 

@@ -2,7 +2,7 @@
 
 use super::{readings, rules};
 use crate::model::decode::{Data, FrameHeader, Frames, Line, Packet, Screen, Ss2Word};
-use crate::model::{long_enough, number, size_at, Document, Refusal, FRAME_HEADER};
+use crate::model::{kind, long_enough, number, size_at, Document, Refusal, FRAME_HEADER};
 use flic_boundary::PairMut;
 use std::ops::Range;
 
@@ -89,6 +89,14 @@ readings! { ALL: Frames;
     });
     LevelsUnchecked = OtherLevels(|_, _| Ok(()));
     LevelsAsTheyStand = OtherComponent(|_, level| level);
+    LevelsTimes4 = OtherComponent(|kind, level| match kind {
+        kind::COLOR => level.wrapping_mul(4),
+        _ => level,
+    });
+    LevelsRoundedUp = OtherComponent(|kind, level| match kind {
+        kind::COLOR => level.wrapping_mul(4).wrapping_add(level.div_ceil(16)),
+        _ => level,
+    });
     LevelsBeforeColours = OtherColourPacket(|kind, data, entries, screen| {
         if entries.end <= 256 {
             Document.levels(kind, &data.rest[..data.rest.len().min(3 * entries.len())])?;
