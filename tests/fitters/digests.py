@@ -9,7 +9,7 @@ STORED = (
     "scroll-2-even scroll-3-odd scroll-4-even scroll-4-odd noise-1-even noise-1-odd noise-2-odd "
     "blocks-1-even blocks-1-odd blocks-4-odd blocks-board "
     "edges-0-even edges-3-odd edges-4-even edges-4-odd edges-board "
-    "colours-0 levels-2 dark_levels-2 brun-2 copy-1 copy-padded ss2-1 lc-1 lc_below-0 stamp-0 unknown-2 spare-2 "
+    "colours-0 levels-2 white dark_levels-2 brun-2 copy-1 copy-padded ss2-1 lc-1 lc_below-0 stamp-0 unknown-2 spare-2 "
     "black-1 odd-1 mixed-1 prefix top-unknown top-a1 top-f5fa after-ring behind-size"
 ).split()
 

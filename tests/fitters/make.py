@@ -119,6 +119,12 @@ def first_frame(m):
     return frame([m.all_colours(), m.brun(True)])
 
 
+def levels_first_frame(m):
+    """All colours by kind 11, every level among them, entry 255 white."""
+    levels = bytes(i % 64 for i in range(765)) + bytes([63] * 3)
+    return frame([chunk(COLOR, b"\1\0\0\0" + levels), m.brun(True)])
+
+
 def handmade_reels():
     """Each kind of hand-made frame at even and odd sizes."""
     for place, (kind, make) in enumerate(FRAMES.items()):
@@ -129,6 +135,8 @@ def handmade_reels():
             yield f"{kind}-{i}", closed(m, [first_frame(m)] + [make(m) for _ in range(rng.randrange(2, 9))])
     row = Maker(random.Random("a row"), 7, 1)
     yield "copy-padded", closed(row, [first_frame(row)] + [frame([row.copy(b"\0")]) for _ in range(3)])
+    white = Maker(random.Random("white"), 40, 24)
+    yield "white", closed(white, [levels_first_frame(white)] + [frame([white.ss2(False)]) for _ in range(4)])
     yield from top_level_reels()
 
 

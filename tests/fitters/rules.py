@@ -24,7 +24,7 @@ RULES = {
     "pillow": {
         "no-ring": (PICTURE, "blocks-1-even"),
         "first-palette": (PALETTE, "fade-4-odd"),
-        "levels-64": (PALETTE, "levels-2"),
+        "levels-64": (PALETTE, "white"),
         "ten-bytes": (PICTURE, "black-1"),
         "unknown-kind": (PICTURE, "unknown-2"),
         "lc-rows": (PICTURE, "lc-1"),
