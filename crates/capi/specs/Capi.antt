@@ -1,14 +1,18 @@
 -- What a caller in C holds after a call: numbers, and the memory that was lent.
-use Prim.Native.Nat.{ℕ}
+use Prim.Native.Nat.{ℕ, _*_, _≤_}
 use mathlib.Core.Path.{_≡_}
-use mathlib.Core.List.{[], _∷_}
+use mathlib.Core.List.{List, [], _∷_}
 use mathlib.Core.Bool.{not, cond}
 use lib.Dec.{eqb}
+use lib.ListN.{length}
 use Rattle.format.specs.Limits.{sizeOf}
 use Rattle.answer.specs.Answer.{Said, done, refused, number}
 use Rattle.state.specs.Outcome.{Memory, Outcome}
 use Rattle.chunks.specs.declared.Next.{Next}
 use Rattle.chunks.specs.declared.Next.the-variants as next
+use Rattle.house_rows.specs.declared.RowCost.{RowCost}
+use Rattle.house_rows.specs.declared.RowCost.the-variants as cost
+use Rattle.house_rows.specs.Search.{searchRow}
 use Rattle.reel_header.specs.declared.Head.{Head}
 use Rattle.reel_header.specs.declared.Head.the-variants as head
 use Rattle.reel_build.specs.declared.Reel.{Reel}
@@ -18,6 +22,7 @@ use Rattle.board_player.specs.Player.{PlayerOutcome}
 use Rattle.capi.specs.declared.Record.{Record}
 use Rattle.capi.specs.declared.ReelHeader.{ReelHeader}
 use Rattle.capi.specs.declared.FrameSpan.{FrameSpan}
+use Rattle.capi.specs.declared.RowFigures.{RowFigures}
 
 -- the refusal's number, 0 for done
 abbrev pub numberOf : Said → ℕ
@@ -82,6 +87,16 @@ headerFor (head.Reel width height frames size speed) =
 abbrev pub spanFor : Next → FrameSpan
 spanFor (next.Fault e place) = record { number = number e; place = place; from = 0; end = 0 }
 spanFor (next.Frame from end) = record { number = 0; place = 0; from = from; end = end }
+
+-- a row's bytes and turns, or the refusal with place 0 and both 0
+abbrev pub figuresFor : RowCost → RowFigures
+figuresFor (cost.Fault e) = record { number = number e; place = 0; bytes = 0; turns = 0 }
+figuresFor (cost.Cost bytes turns) = record { number = 0; place = 0; bytes = bytes; turns = turns }
+
+-- what is held after a row was searched: these, and "at most 16 turns for each pixel of the row"
+pub record HeldCost (r : RowFigures) (row : List ℕ) : Type 0 where
+  pub figures-are : r ≡ figuresFor (searchRow row)
+  pub few : r .turns ≤ 16 * length row
 
 -- the event that a tick tells, 0 where refused
 abbrev pub eventOf : Said → ℕ

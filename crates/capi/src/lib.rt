@@ -19,11 +19,12 @@ ghost use Rattle.board_clock.specs.Replay.{replayed};
 ghost use Rattle.board_player.specs.Player.{toldTick};
 ghost use Rattle.board_player.specs.Ticking.{tick};
 ghost use Rattle.board_player.specs.Starting.{startPlayer};
-ghost use Rattle.capi.specs.Capi.{headerFor, spanFor, lengthOf, eventOf, nothing, reelFrom, recordFor, recordOf, Told, Held, HeldLength, HeldReel, HeldPlayer, HeldTick};
+ghost use Rattle.capi.specs.Capi.{headerFor, spanFor, HeldCost, lengthOf, eventOf, nothing, reelFrom, recordFor, recordOf, Told, Held, HeldLength, HeldReel, HeldPlayer, HeldTick};
 use board_player::Player;
 use board_player::Ticked;
 use chunks::Next;
 use format::Size;
+use house_rows::RowCost;
 use reel_build::Built;
 use reel_build::Reel;
 use reel_header::Head;
@@ -80,6 +81,15 @@ pub struct FrameSpan {
     pub place: u64,
     pub from: u64,
     pub end: u64,
+}
+
+// What a row's least packets cost: their bytes, and the turns of the search for them; both 0 where refused.
+#[repr(C)]
+pub struct RowFigures {
+    pub number: u32,
+    pub place: u64,
+    pub bytes: u64,
+    pub turns: u64,
 }
 
 // An answer with the player that was started: all its fields are 0 where refused.
@@ -169,6 +179,27 @@ pub extern "C" fn flic_write_frame(
         out,
     );
     written_for_c(a)
+}
+
+// Searches one row for its least packets.
+#[no_mangle]
+pub extern "C" fn flic_search_row(row: &[u8]) -> RowFigures
+    ensures { λ r. ⌜ HeldCost r (now (row .entry)) ⌝ }
+{
+    match house_rows::search_row(row) {
+        RowCost::Fault(e) => RowFigures {
+            number: answer::number_of(e),
+            place: 0,
+            bytes: 0,
+            turns: 0,
+        },
+        RowCost::Cost { bytes, turns } => RowFigures {
+            number: 0,
+            place: 0,
+            bytes: bytes as u64,
+            turns: turns as u64,
+        },
+    }
 }
 
 // Reads a frame into the working pair and writes it in house form.

@@ -1,17 +1,17 @@
 -- Laws of a frame's plans, of its bytes one part after the other, and of the answer.
 use mathlib.Core.Path.{_≡_, refl, sym, ap, ap₂, _∙_}
 use mathlib.Core.List.{List, [], _∷_, _++_, append-nil, append-assoc, flatten}
-use mathlib.Core.Bool.{Bool, true, false, cond}
+use mathlib.Core.Bool.{Bool, true, false, not, cond}
 use Prim.Native.Nat.{ℕ, _+_, _≤_, _<_}
 use native.Mathlib.Omega.{arith}
-use borrow.Author.Tests.{lt-ltb, le-ltb, ltb-true}
+use borrow.Author.Tests.{lt-ltb, le-ltb, ltb-true, not-false}
 use lib.Dec.{ltb}
 use lib.ListN.{length, length-append}
 use Rattle.words.specs.Words.{chunk, same}
 use Rattle.words.specs.Writes.{put}
-use Rattle.words.proofs.Laws.{put-then, length-chunk}
+use Rattle.words.proofs.Laws.{put-then, length-chunk, false-not-true}
 use Rattle.words.proofs.Tests.{by-test}
-use Rattle.format.specs.Format.{FLI-COLOR256, FLI-SS2, FLI-COPY}
+use Rattle.format.specs.Format.{FLI-COLOR256, FLI-SS2, FLI-BRUN, FLI-COPY}
 use Rattle.format.specs.Limits.{area, sizeOk}
 use Rattle.format.specs.declared.Size.{Size}
 use Rattle.answer.specs.Answer.{done}
@@ -22,13 +22,16 @@ use Rattle.state.proofs.Laws.{fitted-none, fitted-whole}
 use Rattle.house_colour.specs.Colours.{colourBody}
 use Rattle.house_colour.proofs.ReadsBack.{colour-short}
 use Rattle.house_ss2.specs.Delta.{deltaBody}
+use Rattle.house_full.specs.Edges.{allEdges}
 use Rattle.house_full.specs.Full.{fullChunk, fullKind}
+use Rattle.house_full.proofs.Edges.{full-edges}
 use Rattle.house_full.proofs.Laws.{sized-small, kind-copy}
 use Rattle.house_full.proofs.FullLeast.{full-shortest}
 use Rattle.house_frame.specs.House.{colourChunk, deltaChunk, pictureChunk, changed, houseChunks, framed, houseFrame, colourChunkMost, pictureMost, frameMost}
-use Rattle.house_frame.specs.Plans.{nothing, planned, colourPlan, picturePlan, headerBytes}
+use Rattle.house_frame.specs.Plans.{nothing, planned, colourPlan, deltaPlan, shorterPlan, picturePlan, headerBytes}
 use Rattle.house_frame.specs.Writing.{writeFrame}
 use Rattle.house_frame.specs.declared.ChunkPlan.{ChunkPlan}
+use Rattle.house_frame.specs.declared.DeltaPlan.{DeltaPlan}
 
 -- bytes stored, and the sub-chunks that they are
 
@@ -129,6 +132,26 @@ pub record FullPlanned (z : Size) (p q : List ℕ) (r : ChunkPlan) : Type 0 wher
 full-kind : (w h : ℕ) (q : List ℕ) → fullKind w h q ≡ FLI-SS2 → ⊥
 full-kind w h q e = omega (arith, kind-copy w h q {k = fullKind w h q} refl (λ x. omega arith) (λ x. omega arith) .kind)
 
+-- the delta or the full chunk, whichever is shorter
+
+module _ (z : Size) (q : List ℕ) (d : ℕ) where
+  pub shorter-delta : d < length (full z q) → record { chunks = 1; kind = FLI-SS2; size = d } ≡ shorterPlan z q d
+  unfolding shorterPlan
+  shorter-delta l = rw (lt-ltb d (length (full z q)) l)
+
+  pub shorter-full : length (full z q) ≤ d → (k f : ℕ) → k ≡ fullKind (z .width) (z .height) q → f ≡ length (full z q) → record { chunks = 1; kind = k; size = f } ≡ shorterPlan z q d
+  unfolding shorterPlan
+  shorter-full l k f i j = rw (le-ltb d (length (full z q)) l) (ap₂ (λ (a b : ℕ). record { chunks = 1; kind = a; size = b }) i j)
+
+  -- of the two only the full chunk's kind is BRUN
+  pub shorter-brun : {r : ChunkPlan} → r ≡ shorterPlan z q d → r .kind ≡ FLI-BRUN → fullKind (z .width) (z .height) q ≡ FLI-BRUN
+  unfolding shorterPlan
+  shorter-brun {r} f k = by-case (ltb d (length (full z q))) f
+    where
+      by-case : (t : Bool) → r ≡ cond t (record { chunks = 1; kind = FLI-SS2; size = d }) (planned (fullKind (z .width) (z .height) q) (full z q)) → fullKind (z .width) (z .height) q ≡ FLI-BRUN
+      by-case true i = absurd (omega (arith, ap (λ (x : ChunkPlan). x .kind) i))
+      by-case false i = sym (ap (λ (x : ChunkPlan). x .kind) i) ∙ k
+
 module _ (z : Size) (p q : List ℕ) where
   delta-length : length (deltaChunk z p q) ≡ 6 + length (deltaBody (z .width) (z .height) p q)
   unfolding deltaChunk
@@ -142,23 +165,53 @@ module _ (z : Size) (p q : List ℕ) where
   abbrev shorter : Bool
   shorter = ltb (length (deltaChunk z p q)) (length (full z q))
 
-  pub picture-same : same p q ≡ true → nothing ≡ picturePlan z p q
-  unfolding picturePlan
-  picture-same e = rw e
+  -- the delta's plan
 
-  pub picture-delta : same p q ≡ false → (d f : ℕ) → d ≡ length (deltaBody (z .width) (z .height) p q) → f ≡ length (full z q) → 6 + d < f
-      → record { chunks = 1; kind = FLI-SS2; size = 6 + d } ≡ picturePlan z p q
-  unfolding picturePlan
-  picture-delta e d f i j less =
-      rw (e, lt-ltb (length (deltaChunk z p q)) (length (full z q)) (omega (arith, delta-length)))
-      (ap (λ (b : ℕ). record { chunks = 1; kind = FLI-SS2; size = b }) (omega (arith, delta-length)))
+  pub delta-none : same p q ≡ true → record { chunk = nothing; search = false } ≡ deltaPlan z p q
+  unfolding deltaPlan
+  delta-none e = rw e
 
-  pub picture-full : same p q ≡ false → (k d f : ℕ) → k ≡ fullKind (z .width) (z .height) q → d ≡ length (deltaBody (z .width) (z .height) p q) → f ≡ length (full z q) → f ≤ 6 + d
-      → record { chunks = 1; kind = k; size = f } ≡ picturePlan z p q
-  unfolding picturePlan
-  picture-full e k d f i j l less =
-      rw (e, le-ltb (length (deltaChunk z p q)) (length (full z q)) (omega (arith, delta-length)))
-      (ap₂ (λ (a b : ℕ). record { chunks = 1; kind = a; size = b }) i l)
+  pub delta-made : same p q ≡ false → (d : ℕ) (b : Bool) → d ≡ length (deltaBody (z .width) (z .height) p q) → b ≡ ltb d (allEdges (z .width) (z .height) q)
+      → record { chunk = record { chunks = 1; kind = FLI-SS2; size = 6 + d }; search = not b } ≡ deltaPlan z p q
+  unfolding deltaPlan
+  delta-made e d b i j =
+      rw e
+      (ap₂ (λ (n : ℕ) (s : Bool). record { chunk = record { chunks = 1; kind = FLI-SS2; size = n }; search = not s }) (omega (arith, delta-length))
+      (j ∙ ap (λ (n : ℕ). ltb n (allEdges (z .width) (z .height) q)) i))
+
+  abbrev sought : DeltaPlan
+  sought = record {
+    chunk = planned FLI-SS2 (deltaChunk z p q);
+    search = not (ltb (length (deltaBody (z .width) (z .height) p q)) (allEdges (z .width) (z .height) q));
+  }
+
+  -- where no row is searched it is the picture's plan, and no BRUN chunk's
+  pub delta-taken : {r : DeltaPlan} → r ≡ deltaPlan z p q → r .search ≡ false → (r .chunk ≡ picturePlan z p q) × (r .chunk .kind ≡ FLI-BRUN → ⊥)
+  unfolding deltaPlan picturePlan
+  delta-taken {r} f s = by-case (same p q) f
+    where
+      by-case : (t : Bool) → r ≡ cond t (record { chunk = nothing; search = false }) sought → (r .chunk ≡ cond t nothing (used shorter)) × (r .chunk .kind ≡ FLI-BRUN → ⊥)
+      by-case true i = (ap (λ (x : DeltaPlan). x .chunk) i, λ k. absurd (omega (arith, ap (λ (x : DeltaPlan). x .chunk .kind) i)))
+      by-case false i =
+          let e = ltb-true _ _ (not-false _ (sym (ap (λ (x : DeltaPlan). x .search) i) ∙ s)) in
+          let l = full-edges (z .width) (z .height) q (length (deltaBody (z .width) (z .height) p q)) e in (
+            ap (λ (x : DeltaPlan). x .chunk) i ∙ ap used (sym (lt-ltb (length (deltaChunk z p q)) (length (full z q)) (omega (arith, delta-length)))),
+            λ k. absurd (omega (arith, ap (λ (x : DeltaPlan). x .chunk .kind) i)),
+          )
+
+  -- where rows are searched there is a change
+  pub delta-sought : {r : DeltaPlan} → r ≡ deltaPlan z p q → r .search ≡ true → (same p q ≡ false) × (r .chunk .size ≡ length (deltaChunk z p q))
+  unfolding deltaPlan
+  delta-sought {r} f s = by-case (same p q) f
+    where
+      by-case : (t : Bool) → r ≡ cond t (record { chunk = nothing; search = false }) sought → (t ≡ false) × (r .chunk .size ≡ length (deltaChunk z p q))
+      by-case true i = false-not-true (sym (ap (λ (x : DeltaPlan). x .search) i) ∙ s)
+      by-case false i = (refl, ap (λ (x : DeltaPlan). x .chunk .size) i)
+
+  -- the plan with the delta's bytes in hand is the picture's
+  pub shorter-picture : same p q ≡ false → (d : ℕ) → d ≡ length (deltaChunk z p q) → shorterPlan z q d ≡ picturePlan z p q
+  unfolding shorterPlan picturePlan
+  shorter-picture e d i = rw (e, i)
 
   pub full-short : length (full z q) ≤ 6 + length q
   full-short = omega (arith, full-shortest (z .width) (z .height) q .1, length-chunk FLI-COPY q)

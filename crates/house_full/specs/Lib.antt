@@ -1,3 +1,4 @@
 pub mod Full
 pub mod Edges
+pub mod Plan
 pub mod RowReader

@@ -8,7 +8,10 @@ ghost use Rattle.words.specs.Writes.{put};
 ghost use Rattle.format.specs.Limits.{Wide};
 ghost use Rattle.state.specs.State.{Picture};
 ghost use Rattle.house_full.specs.Edges.{edges, allEdges};
+ghost use Rattle.format.specs.Format.{FLI-BRUN};
+ghost use Rattle.house_rows.specs.Search.{types};
 ghost use Rattle.house_full.specs.Full.{brunRow, brunBody, allZero, fullChunk, fullKind};
+ghost use Rattle.house_full.specs.Plan.{rowTypes, fullPlan};
 use format::FLI_BLACK;
 use format::FLI_BRUN;
 use format::FLI_COPY;
@@ -65,18 +68,20 @@ pub fn more_edges(picture: &[u8], width: usize, height: usize, n: usize) -> bool
     n < count
 }
 
-// The size of the BRUN body.
-fn brun_size(picture: &[u8], width: usize, height: usize) -> usize
-    requires { ⌜ Picture width height (now picture) ⌝ }
-    ensures { λ r. ⌜ r ≡ length (brunBody width height (now (picture .entry))) ⌝ }
+// The size of the BRUN body. The plan, as long as the picture, gets what is noted of each row.
+fn brun_size(plan: &mut [u8], picture: &[u8], width: usize, height: usize) -> usize
+    requires { ⌜ Picture width height (now picture) × (length (now plan) ≡ length (now picture)) ⌝ }
+    ensures { λ r.
+        ⌜ (r ≡ length (brunBody width height (now (picture .entry))))
+        × (now (plan .exit) ≡ rowTypes width height (now (picture .entry))) ⌝ }
 {
     let mut size = 0;
     let mut from = 0;
     let mut left = height;
     while left > 0 {
         let end = from + width;
-        let plan = plan_row(&picture[from..end]);
-        size = size + 1 + plan.size;
+        let row = plan_row(&mut plan[from..end], &picture[from..end]);
+        size = size + 1 + row.size;
         from = end;
         left -= 1;
     }
@@ -89,12 +94,13 @@ pub struct FullSize {
     pub size: usize,
 }
 
-// The shortest full chunk.
-pub fn measure_full(picture: &[u8], width: usize, height: usize) -> FullSize
-    requires { ⌜ Picture width height (now picture) ⌝ }
+// The shortest full chunk. Where rows are searched, the plan gets what `write_full` goes by.
+pub fn measure_full(plan: &mut [u8], picture: &[u8], width: usize, height: usize) -> FullSize
+    requires { ⌜ Picture width height (now picture) × (length (now plan) ≡ length (now picture)) ⌝ }
     ensures { λ r.
         ⌜ (r .kind ≡ fullKind width height (now (picture .entry)))
-        × (r .size ≡ length (fullChunk width height (now (picture .entry)))) ⌝ }
+        × (r .size ≡ length (fullChunk width height (now (picture .entry))))
+        × (now (plan .exit) ≡ fullPlan width height (now (picture .entry)) (now (plan .entry))) ⌝ }
 {
     if all_zero(picture) {
         return FullSize {
@@ -102,7 +108,7 @@ pub fn measure_full(picture: &[u8], width: usize, height: usize) -> FullSize
             size: 6,
         };
     }
-    let size = brun_size(picture, width, height);
+    let size = brun_size(plan, picture, width, height);
     if size <= picture.len() {
         return FullSize {
             kind: FLI_BRUN,
@@ -123,23 +129,30 @@ fn count_byte(count: usize) -> u8
 }
 
 // Writes a row of the BRUN body. Returns its size.
-fn write_brun_row(out: &mut [u8], at: usize, row: &[u8]) -> usize
-    requires { ⌜ (1 ≤ length (now row))
-        × Wide (length (now row))
+fn write_brun_row(out: &mut [u8], at: usize, row: &[u8], first: &[u8]) -> usize
+    requires { ⌜ Wide (length (now row))
+        × (now first ≡ types (now row))
         × (at + length (brunRow (now row)) ≤ length (now out)) ⌝ }
     ensures { λ r.
         ⌜ (r ≡ length (brunRow (now (row .entry))))
         × (now (out .exit) ≡ put (now (out .entry)) at (brunRow (now (row .entry)))) ⌝ }
 {
-    let plan = plan_row(row);
-    let count = write_row(out, at + 1, row, &plan.first);
-    out[at] = count_byte(count);
-    1 + plan.size
+    let written = write_row(out, at + 1, row, first);
+    out[at] = count_byte(written.packets);
+    1 + written.size
 }
 
 // Writes the BRUN body. Returns its size.
-fn write_brun(out: &mut [u8], at: usize, picture: &[u8], width: usize, height: usize) -> usize
+fn write_brun(
+    out: &mut [u8],
+    at: usize,
+    picture: &[u8],
+    plan: &[u8],
+    width: usize,
+    height: usize,
+) -> usize
     requires { ⌜ Picture width height (now picture)
+        × (now plan ≡ rowTypes width height (now picture))
         × (at + length (brunBody width height (now picture)) ≤ length (now out)) ⌝ }
     ensures { λ r.
         ⌜ (r ≡ length (brunBody width height (now (picture .entry))))
@@ -150,24 +163,26 @@ fn write_brun(out: &mut [u8], at: usize, picture: &[u8], width: usize, height: u
     let mut left = height;
     while left > 0 {
         let end = from + width;
-        here = here + write_brun_row(out, here, &picture[from..end]);
+        here = here + write_brun_row(out, here, &picture[from..end], &plan[from..end]);
         from = end;
         left -= 1;
     }
     here - at
 }
 
-// Writes the shortest full chunk, whose kind is given.
+// Writes the shortest full chunk, whose kind is given, as planned.
 pub fn write_full(
     out: &mut [u8],
     at: usize,
     picture: &[u8],
+    plan: &[u8],
     width: usize,
     height: usize,
     kind: usize,
 )
     requires { ⌜ Picture width height (now picture)
         × (kind ≡ fullKind width height (now picture))
+        × (kind ≡ FLI-BRUN → now plan ≡ rowTypes width height (now picture))
         × (at + length (fullChunk width height (now picture)) ≤ length (now out)) ⌝ }
     ensures { λ _. ⌜ now (out .exit) ≡ put (now (out .entry)) at (fullChunk width height (now (picture .entry))) ⌝ }
 {
@@ -176,7 +191,7 @@ pub fn write_full(
         return;
     }
     if kind == FLI_BRUN {
-        let size = write_brun(out, at + 6, picture, width, height);
+        let size = write_brun(out, at + 6, picture, plan, width, height);
         put_header(out, at, 6 + size, FLI_BRUN);
         return;
     }

@@ -3,6 +3,7 @@ pub mod Packets
 pub mod Lowest
 pub mod Windows
 pub mod Steps
+pub mod Types
 pub mod Searching
 pub mod Writing
 pub mod Apart

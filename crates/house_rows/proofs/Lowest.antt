@@ -4,7 +4,7 @@ use mathlib.Core.Logic.{⊎-elim}
 use Prim.Native.Nat.{ℕ, _+_, _-_, _≤_, _<_}
 use native.Mathlib.Omega.{arith}
 use Rattle.house_least.proofs.Laws.{le-or-lt}
-use Rattle.house_rows.specs.Search.{Lowest}
+use Rattle.house_rows.specs.Window.{Lowest}
 
 -- a proof of A, where A is not shown by what stands around it
 pub the : (A : Type 0) → A → A

@@ -14,7 +14,7 @@ use borrow.Author.Tests.{eqb-true, eq-eqb, ne-eqb}
 use Rattle.house_least.specs.Least.{best, table}
 use Rattle.house_least.proofs.Laws as laws
 use Rattle.house_rows.specs.Row.{RowPacket, repeat, copy, span, size, equal, down, allowed, house, bytes, houseBytes, Before}
-use Rattle.house_rows.specs.Search.{Lowest}
+use Rattle.house_rows.specs.Window.{Lowest}
 use Rattle.house_rows.proofs.Lowest.{shifted, the}
 use Rattle.house_rows.proofs.Packets.{fits, some-packet, sorted, antisym, mem-down, copy-mem, copy-of, down-mem, equal-le}
 use Rattle.house_rows.proofs.RowRule.{leastSize, house-size}
@@ -43,7 +43,7 @@ unfolding run
 run-bound [] = omega arith
 run-bound (v ∷ s) = omega (arith, equal-le v s)
 
-pub run-some : (row : List ℕ) (i : ℕ) → i + 1 < length row → 1 ≤ run (drop i row)
+pub run-some : (row : List ℕ) (i : ℕ) → i < length row → 1 ≤ run (drop i row)
 unfolding run
 run-some row i h = rw (drop-cons row i 0 (omega arith)) (omega arith)
 

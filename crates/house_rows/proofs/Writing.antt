@@ -12,7 +12,7 @@ use Rattle.words.proofs.Laws.{magnitude-plus, magnitude-minus, put-nil, put-one
 use Rattle.house_least.specs.Least.{best, table}
 use Rattle.house_least.proofs.Laws as laws
 use Rattle.house_rows.specs.Row.{RowPacket, repeat, copy, span, size, allowed, house, bytes, houseBytes}
-use Rattle.house_rows.specs.Search.{carried}
+use Rattle.house_rows.specs.Window.{carried}
 use Rattle.house_rows.proofs.Packets.{fits, some-packet, repeat-of, copy-of}
 
 -- what a packet carries
@@ -94,13 +94,14 @@ house-nil = (refl, refl)
 pub record Writing (row out₀ : List ℕ) (at : ℕ) (out : List ℕ) (here x n : ℕ) : Type 0 where
   pub stored : put out here (houseBytes (drop x row)) ≡ put out₀ at (houseBytes row)
   pub long : length out ≡ length out₀
-  pub room : here + length (houseBytes (drop x row)) ≤ length out
+  pub room : at + length (houseBytes row) ≤ length out
+  pub reached : here + length (houseBytes (drop x row)) ≡ at + length (houseBytes row)
   pub ahead : x ≤ length row
   pub few : n ≤ x
   pub counted : n + length (house (drop x row)) ≡ length (house row)
 
 pub writing-first : (row out : List ℕ) (at : ℕ) → at + length (houseBytes row) ≤ length out → Writing row out at out at 0 0
-writing-first row out at h = record { stored = refl; long = refl; room = h; ahead = omega arith; few = omega arith; counted = omega arith }
+writing-first row out at h = record { stored = refl; long = refl; room = h; reached = refl; ahead = omega arith; few = omega arith; counted = omega arith }
 
 module _ {row out₀ out : List ℕ} {at here x n : ℕ} (w : Writing row out₀ at out here x n) where
   module _ (t : ℕ) (inside : x < length row) (e : t ≡ getD (houseBytes (drop x row)) 0 0) where
@@ -114,7 +115,7 @@ module _ {row out₀ out : List ℕ} {at here x n : ℕ} (w : Writing row out₀
 
     -- the packet of type t lies in the row, and there is room for it
     pub packet-fits : (x + carried t ≤ length row) × (here + 1 + carried t ≤ length out) × (1 ≤ magnitude t) × (x + magnitude t ≤ length row)
-    packet-fits = let f = first in omega (arith, f .some, f .inside, f .within, length-drop x row, w .room, size-first)
+    packet-fits = let f = first in omega (arith, f .some, f .inside, f .within, length-drop x row, w .room, w .reached, size-first)
 
     pub writing-more : (out′ : List ℕ) → out′ ≡ put out here (t ∷ take (carried t) (drop x row))
         → Writing row out₀ at out′ (here + (1 + carried t)) (x + magnitude t) (n + 1)
@@ -132,17 +133,19 @@ module _ {row out₀ out : List ℕ} {at here x n : ℕ} (w : Writing row out₀
               ∙ ap (λ (l : List ℕ). put out here l) (sym (f .bytes))
               ∙ w .stored;
           long = long′ ∙ w .long;
-          room = omega (arith, ap (λ (r : List ℕ). length (houseBytes r)) rest, size-first, w .room);
+          room = omega (arith, w .room);
+          reached = omega (arith, ap (λ (r : List ℕ). length (houseBytes r)) rest, size-first, w .reached);
           ahead = fit .3;
           few = omega (arith, w .few);
           counted = omega (arith, w .counted, f .packets, ap (λ (r : List ℕ). length (house r)) rest);
         }
 
-  pub writing-done : length row ≤ x → (n ≡ length (house row)) × (out ≡ put out₀ at (houseBytes row))
+  pub writing-done : length row ≤ x → (n ≡ length (house row)) × (here ≡ at + length (houseBytes row)) × (out ≡ put out₀ at (houseBytes row))
   writing-done h =
       let z : x ≡ length row = omega (arith, w .ahead) in
       let d : drop x row ≡ [] = ap (λ (k : ℕ). drop k row) z ∙ drop-length row in (
         omega (arith, w .counted, ap (λ (r : List ℕ). length (house r)) d, house-nil .1),
+        omega (arith, w .reached, ap (λ (r : List ℕ). length (houseBytes r)) d, ap length (house-nil .0)),
         sym (put-nil out here) ∙ ap (λ (l : List ℕ). put out here l) (sym (ap houseBytes d ∙ house-nil .0)) ∙ w .stored,
       )
 

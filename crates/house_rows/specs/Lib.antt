@@ -1,3 +1,4 @@
 pub mod Row
 pub mod RowRule
 pub mod Search
+pub mod Window

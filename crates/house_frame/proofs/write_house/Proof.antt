@@ -1,70 +1,39 @@
--- `write_house` meets its contract: the plans' sizes make up the frame's, and its three parts are stored one after the other.
-use native.Mathlib.Omega.{arith}
+-- `write_house` meets its contract: where the rows have more edges than the delta has bytes it is shorter than the full chunk (`full-edges`), and no row is searched; where not, they are.
 use borrow.Author.Needs.{needs}
-use Rattle.state.specs.State.{state}
-use Rattle.house_frame.proofs.Laws.{Planned, colours-in, picture-in, house-none, house-stored}
+use Rattle.house_frame.proofs.Laws.{delta-taken, delta-sought}
 use Rattle.house_frame.proofs.write_house.Statement.{statement}
 use Rattle.house_frame.proofs.write_house.Tie as tie
 
--- the two states and what is planned
-plans : (c : tie.After-measure-picture) → let a = c .before .before .before .before .before .before .before .args in Planned (a .size) (state (a .previous-picture .now) (a .previous-palette .now)) (state (a .next-picture .now) (a .next-palette .now)) (c .before .measure-colours .result) (c .measure-picture .result)
-plans c = let p = c .before .before .before .before .before .before .before .pre in record { previous = p .0; next = p .1; colours = c .before .measure-colours .ensures; picture = c .measure-picture .ensures }
-
 measure-colours-requires : tie.Need-measure-colours-requires
-measure-colours-requires c κs = let p = c .before .before .before .before .before .pre in (p .0 .colours, p .1 .colours)
+measure-colours-requires c κs = (c .before .before .before .before .before .pre .0 .colours, c .before .before .before .before .before .pre .1 .colours)
 
-measure-picture-requires : tie.Need-measure-picture-requires
-measure-picture-requires c κs = let p = c .before .before .before .before .before .before .pre in (p .0 .picture, p .1 .picture)
+measure-delta-requires : tie.Need-measure-delta-requires
+measure-delta-requires c κs = (c .before .before .before .before .before .before .pre .0 .picture, c .before .before .before .before .before .before .pre .1 .picture)
 
-add-whole : tie.Need-add-whole
-add-whole c = omega (arith, colours-in (plans (c .before)) .short)
+write-searched-requires : tie.Need-write-searched-requires
+write-searched-requires c κs =
+    let a = c .before .before .before .before .before .before .before .before .before .before .args in
+    let s = delta-sought (a .size) (a .previous-picture .now) (a .next-picture .now) (c .before .before .before .measure-delta .ensures) (c .before .if1 .taken) in
+    (c .before .before .before .before .before .before .before .before .before .before .pre .0, c .before .before .before .before .before .before .before .before .before .before .pre .1, c .before .before .before .before .measure-colours .ensures, s .0, s .1)
 
-add-whole-2 : tie.Need-add-whole-2
-add-whole-2 c = let p = plans (c .before .before) in omega (arith, colours-in p .short, picture-in p .short)
-
-returns : tie.Need-returns
-returns c = house-none (plans (c .before .before .before)) (c .before .before .before .before .before .before .before .before .before .before .args .out .now) (c .if1 .taken)
-
-add-put-frame-header : tie.Need-add-put-frame-header
-add-put-frame-header c = let p = plans (c .before .before .before .before .before .before) in omega (arith, colours-in p .one, picture-in p .one)
-
-put-frame-header-requires : tie.Need-put-frame-header-requires
-put-frame-header-requires c κs =
-    let p = plans (c .before .before .before .before .before .before) in (omega (arith, c .before .before .before .if1 .left), omega (arith, colours-in p .one, picture-in p .one))
-
-add-at : tie.Need-add-at
-add-at c = omega (arith, colours-in (plans (c .before .before .before .before .before .before .before .before .before .before)) .short)
-
-write-colours-requires : tie.Need-write-colours-requires
-write-colours-requires c κs =
-    let p = c .before .before .before .before .before .before .before .before .before .before .before .before .before .before .before .before .before .before .pre in
-    (p .0 .colours, p .1 .colours, c .before .before .before .before .before .before .before .before .before .before .before .before .measure-colours .ensures, omega (arith, c .before .before .before .before .before .before .before .before .if1 .left))
-
-write-picture-requires : tie.Need-write-picture-requires
-write-picture-requires c κs =
-    let p = c .before .before .before .before .before .before .before .before .before .before .before .before .before .before .before .before .before .before .before .before .before .before .pre in
-    (p .0 .picture, p .1 .picture, c .before .before .before .before .before .before .before .before .before .before .before .before .before .before .before .measure-picture .ensures, omega (arith, c .before .before .before .before .before .before .before .before .before .before .before .before .if1 .left))
-
-returns-2 : tie.Need-returns-2
-returns-2 c =
-    let header = c .before .before .before .before .before .before .before .before .before .before .before .put-frame-header in
-    let colours = c .before .before .before .before .before .before .write-colours in
-    let picture = c .before .before .write-picture in
-    house-stored (plans (c .before .before .before .before .before .before .before .before .before .before .before .before .before .before .before .before .before .before)) (c .before .before .before .before .before .before .before .before .before .before .before .before .before .before .before .before .before .before .before .before .before .before .before .before .before .args .out .now) (header .last .0) (colours .last .0) (picture .last .0) (c .before .before .before .before .before .before .before .before .before .before .before .before .before .before .before .if1 .left) (header .ensures) (colours .ensures) (picture .ensures)
+write-planned-requires : tie.Need-write-planned-requires
+write-planned-requires c κs =
+    let a = c .before .before .before .before .before .before .before .before .before .before .before .args in
+    let s = delta-taken (a .size) (a .previous-picture .now) (a .next-picture .now) (c .before .before .before .before .measure-delta .ensures) (c .before .before .if1 .left) in
+    (c .before .before .before .before .before .before .before .before .before .before .before .pre .0, c .before .before .before .before .before .before .before .before .before .before .before .pre .1, c .before .before .before .before .before .measure-colours .ensures, s .0, λ k. absurd (s .1 k))
 
 pub write-house-spec : {M : Type 1} → statement M
 write-house-spec =
     tie.close
     (tie.spec
     measure-colours-requires
-    measure-picture-requires
-    add-whole
-    add-whole-2
-    returns
-    add-put-frame-header
-    put-frame-header-requires
-    add-at
-    write-colours-requires
-    write-picture-requires
+    measure-delta-requires
+    write-searched-requires
     (λ c. search needs)
-    returns-2)
+    (λ c. search needs)
+    (λ c. search needs)
+    (λ c. search needs)
+    (λ c. search needs)
+    write-planned-requires
+    (λ c. search needs)
+    (λ c. search needs))
