@@ -137,6 +137,18 @@ flic_written flic_write_trailer(uint8_t *bytes, size_t bytes_len);
  * of 0 behind it. */
 flic_written flic_list(const uint8_t *bytes, size_t bytes_len, uint8_t *out, size_t out_len);
 
+/* number 0: done, with how many bytes the row's packets take, the ignored byte in front of them not counted, and how
+ * many turns the search took. Both are 0 where refused. */
+typedef struct {
+    uint32_t number;
+    uint64_t place, bytes, turns;
+} flic_row_cost;
+
+/* Searches for the BRUN packets of a row that take the fewest bytes, as writing a frame does for each row, and says what
+ * it took: never more than 16 turns a pixel, in fact fewer than 2, each looking at no more than four pixels. Refused 2
+ * for a row that no picture has: no pixel, or more than 320. */
+flic_row_cost flic_search_row(const uint8_t *row, size_t row_len);
+
 /* What the file header says, so that a caller needs no parser of its own. number 0: accepted, with the picture's width
  * and height, how many frames there are (the ring not counted), the reel's size in bytes, and for how many milliseconds
  * a frame shows. A refusal has place 0 and all fields 0. */

@@ -84,6 +84,11 @@ pub fn next_frame(bytes: &[u8], at: usize) -> Result<Range<usize>> {
     result(span.number, span.place).map(|()| span.from as usize..span.end as usize)
 }
 
+pub fn search_row(row: &[u8]) -> Result<codec::RowCost> {
+    let cost = codec::search_row(row);
+    result(cost.number, cost.place).map(|()| cost)
+}
+
 pub fn start_player(bytes: &[u8], now: u32, first: PairMut, second: PairMut) -> Result<Player> {
     let answer = codec::start_player(bytes, now, first, second);
     result(answer.number, answer.place).map(|()| answer.player)

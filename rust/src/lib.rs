@@ -42,6 +42,7 @@ mod place;
 mod player;
 mod reel;
 mod refusal;
+mod row;
 mod state;
 mod trailer;
 
@@ -54,5 +55,6 @@ pub use place::{part_of, Part};
 pub use player::{replay, Event, Player};
 pub use reel::{Reel, MOST_FRAMES};
 pub use refusal::{Refusal, Refused, Result};
+pub use row::{search_row, RowCost};
 pub use state::{Palette, Picture, Size, State, PALETTE};
 pub use trailer::{check_trailer, write_trailer, TRAILER_MOST};

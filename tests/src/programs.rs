@@ -5,7 +5,7 @@ use crate::players::night::{kept_time, night, Night, NIGHT};
 use crate::rng::Rng;
 use crate::runner::calls::{
     AddCase, CheckCase, CheckTrailerCase, CloseCase, HeaderCase, ListCase, OpenCase, ReadCase, ReplayCase, RewriteCase,
-    StartCase, StepCase, TickCase, WriteCase, WriteTrailerCase,
+    SearchCase, StartCase, StepCase, TickCase, WriteCase, WriteTrailerCase,
 };
 use crate::runner::command::fail;
 use crate::runner::compare::Comparer;
@@ -13,8 +13,8 @@ use crate::runner::examples::{of_players, of_reading, of_reels, of_trailers, of_
 use crate::runner::inputs::{listed, Case};
 use crate::runner::met::{AROUND, LIVE, PLAY};
 use crate::runner::program::Program;
-use crate::states::State;
-use crate::write_cases::{REWRITE_FAMILIES, WRITE_FAMILIES};
+use crate::states::{picture, State};
+use crate::write_cases::{REWRITE_FAMILIES, SEARCH_FAMILIES, WRITE_FAMILIES};
 use crate::wrong::{seen_in_players, seen_in_reading, seen_in_reels, seen_in_trailers, seen_in_writing};
 use crate::{cases, huge, players, reels, trailers};
 use flic_boundary::FRAME_MOST;
@@ -38,12 +38,15 @@ pub fn writing() -> Program {
         name: "writing",
         unit: "frames",
         base: 20_261,
-        families: [listed(&WRITE_FAMILIES), listed(&REWRITE_FAMILIES)].concat(),
-        least: 240_000,
-        rows: vec![&WriteCase::ROW, &RewriteCase::ROW],
+        families: [listed(&WRITE_FAMILIES), listed(&REWRITE_FAMILIES), listed(&SEARCH_FAMILIES)].concat(),
+        least: 310_000,
+        rows: vec![&WriteCase::ROW, &RewriteCase::ROW, &SearchCase::ROW],
         examples: of_writing(),
         seen_wrongs: seen_in_writing,
-        besides: largest_picture,
+        besides: |library, base| {
+            largest_picture(library, base);
+            most_turns(base);
+        },
     }
 }
 
@@ -117,6 +120,22 @@ fn largest_picture(library: Comparer, base: u64) {
             let differs = format!("writing: the largest picture differs from the model: {}", difference.what);
             fail(&differs, "write this picture alone and follow the first byte that differs")
         }
+    }
+}
+
+/// "at most 16 turns for each pixel of the row" (document 02, Req 03), of the library.
+fn most_turns(base: u64) {
+    let mut rng = Rng::new(base);
+    let mut most = 0.0_f64;
+    for pixels in 1..=MAX_WIDTH as usize {
+        for _ in 0..20 {
+            let turns = flic_boundary::search_row(&picture(&mut rng, pixels, 1)).turns;
+            most = most.max(turns as f64 / pixels as f64);
+        }
+    }
+    println!("writing: the search for a row took at most {most:.3} turns a pixel");
+    if most > 16.0 {
+        fail("writing: the search for a row takes more than 16 turns a pixel", "count the turns of plan_row anew")
     }
 }
 

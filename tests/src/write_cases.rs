@@ -4,7 +4,7 @@ use crate::cases::{FAMILIES, SINGLE};
 use crate::frames::Maker;
 use crate::model::{MODEL, PALETTE_BYTES};
 use crate::rng::Rng;
-use crate::runner::calls::{ReadCase, RewriteCase, WriteCase};
+use crate::runner::calls::{ReadCase, RewriteCase, SearchCase, WriteCase};
 use crate::runner::inputs::Family;
 use crate::sizes::{
     exact, lengths, long_lengths, long_or_exact, right_size, short_lengths, small_size, wrong_or_right, Lengths,
@@ -33,6 +33,15 @@ pub const REWRITE_FAMILIES: [Family<RewriteCase>; 5] = [
 
 /// How many of the rewriting families give one input a batch.
 pub const SINGLE_REWRITES: usize = 3;
+
+pub const SEARCH_FAMILIES: [Family<SearchCase>; 3] = [
+    Family { name: "search-rows", batches: 60_000, emit: search_rows },
+    Family { name: "search-lengths", batches: 12, emit: search_lengths },
+    Family { name: "search-worst", batches: 40, emit: search_worst },
+];
+
+/// How many of the searching families give one input a batch.
+pub const SINGLE_SEARCHES: usize = 1;
 
 const COLOUR_CHUNK_MOST: usize = 6 + 2 + 128 * 2 + 768;
 
@@ -229,5 +238,31 @@ fn rewrite_rooms(rng: &mut Rng, sink: &mut dyn FnMut(RewriteCase)) {
     for room in 0..=rewritten_length(&case) + 2 {
         let work = long_or_exact(rng, case.shown.picture.len());
         sink(rewrite_case(rng, case.clone(), room, work));
+    }
+}
+
+/// A row as pictures have them.
+fn search_rows(rng: &mut Rng, sink: &mut dyn FnMut(SearchCase)) {
+    let (width, _) = right_size(rng);
+    sink(SearchCase(picture(rng, width, 1)));
+}
+
+/// A row of each length, those that no picture has too.
+fn search_lengths(rng: &mut Rng, sink: &mut dyn FnMut(SearchCase)) {
+    for length in (0..=700).chain([65_536]) {
+        sink(SearchCase(picture(rng, length, 1)));
+    }
+}
+
+/// Rows in which copies and repeats cost the same or nearly so, in pieces that end around the limits of packets.
+fn search_worst(rng: &mut Rng, sink: &mut dyn FnMut(SearchCase)) {
+    for length in [126, 127, 128, 129, 130, 254, 255, 256, 257, 258, 318, 319, 320] {
+        for run in [1, 2, 3, 4, 126, 127, 128] {
+            let (shift, every) = (rng.below(4), rng.between(2, 5));
+            let runs = |x: usize| ((x + shift) / run) as u8;
+            sink(SearchCase((0..length).map(runs).collect()));
+            let broken = |x: usize| if x % every == 0 { x as u8 } else { runs(x) };
+            sink(SearchCase((0..length).map(broken).collect()));
+        }
     }
 }

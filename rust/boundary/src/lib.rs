@@ -70,6 +70,16 @@ pub struct Span {
     pub end: u64,
 }
 
+/// An answer, the bytes of a row's packets, and the turns that the search for them took.
+#[repr(C)]
+#[derive(Clone, Copy, Debug, Default, PartialEq, Eq)]
+pub struct RowCost {
+    pub number: u32,
+    pub place: u64,
+    pub bytes: u64,
+    pub turns: u64,
+}
+
 /// The record of a player, as it goes from tick to tick.
 #[repr(C)]
 #[derive(Clone, Copy, Debug, Default, PartialEq, Eq)]
@@ -207,6 +217,8 @@ extern "C" {
     fn flic_write_trailer(bytes: *mut u8, bytes_len: usize) -> Written;
 
     fn flic_list(bytes: *const u8, bytes_len: usize, out: *mut u8, out_len: usize) -> Written;
+
+    fn flic_search_row(row: *const u8, row_len: usize) -> RowCost;
 
     fn flic_read_header(bytes: *const u8, bytes_len: usize) -> Header;
 
@@ -392,6 +404,10 @@ pub fn write_trailer(bytes: &mut [u8]) -> Written {
 
 pub fn list(bytes: &[u8], out: &mut [u8]) -> Written {
     unsafe { flic_list(bytes.as_ptr(), bytes.len(), out.as_mut_ptr(), out.len()) }
+}
+
+pub fn search_row(row: &[u8]) -> RowCost {
+    unsafe { flic_search_row(row.as_ptr(), row.len()) }
 }
 
 pub fn read_header(bytes: &[u8]) -> Header {

@@ -5,7 +5,7 @@ use super::guarded::GuardPages;
 use flic_tests::rng::{mix, Rng};
 use flic_tests::runner::calls::{
     AddCase, Call, CheckCase, CheckTrailerCase, CloseCase, HeaderCase, ListCase, OpenCase, ReadCase, ReplayCase,
-    RewriteCase, StartCase, StepCase, TickCase, WriteCase, WriteTrailerCase, ROWS,
+    RewriteCase, SearchCase, StartCase, StepCase, TickCase, WriteCase, WriteTrailerCase, ROWS,
 };
 use flic_tests::runner::compare::{Comparer, Difference, Library};
 
@@ -31,7 +31,7 @@ pub fn calls(case: &Case) -> Vec<(Box<dyn Call>, u64)> {
     let (standing, beside) = state();
     let ((player, now), (start, readings)) = (case.ticked(), case.readings());
     let words = (readings.len() + case.frame_room % 8).saturating_sub(2);
-    let numbers = (0..words).map(|word| mix(seeds[14], word as u64) as u32).collect();
+    let numbers = (0..words).map(|word| mix(seeds[15], word as u64) as u32).collect();
     let (ticked, _) = state();
     let calls: [Box<dyn Call>; ROWS.len()] = [
         Box::new(ReadCase { bytes: frame(), width, height, shown }),
@@ -46,6 +46,7 @@ pub fn calls(case: &Case) -> Vec<(Box<dyn Call>, u64)> {
         Box::new(ListCase { bytes: bytes(), out: out(9, case.list_room) }),
         Box::new(HeaderCase(bytes())),
         Box::new(StepCase { bytes: bytes(), at: case.offset() }),
+        Box::new(SearchCase(frame())),
         Box::new(StartCase { bytes: bytes(), now: start, first: standing, second: beside }),
         Box::new(TickCase { player, bytes: bytes(), now, shown: ticked }),
         Box::new(ReplayCase { speed, frames: reel.frames, start, readings, numbers }),

@@ -10,6 +10,13 @@ const MOST_REPEATED: usize = 127;
 const MOST_COPIED: usize = 128;
 const MOST_SKIPPED: usize = 254;
 
+/// The bytes of a row's packets, the ignored byte not counted, and the turns that the search for them took.
+#[derive(Clone, Copy, Debug, PartialEq, Eq)]
+pub struct Searched {
+    pub bytes: usize,
+    pub turns: usize,
+}
+
 impl House for Document {}
 
 pub trait House {
@@ -210,6 +217,19 @@ pub trait House {
     /// The most pixels that a BRUN packet repeats, and the most that it copies.
     fn most_brun(&self) -> (usize, usize) {
         (MOST_REPEATED, MOST_COPIED)
+    }
+
+    /// Document 02, Req 03: "find it in at most 16 turns for each pixel of the row .. the search gives its count of turns
+    /// back". A row that no picture has is refused as its size is.
+    fn search_row(&self, row: &[u8]) -> Result<Searched, Refusal> {
+        let (pixels, _) = accepted_size(row.len() as u64, 1)?;
+        let bytes = self.brun_row(row).iter().map(|packet| packet.stored(row).len()).sum();
+        Ok(Searched { bytes, turns: self.turns(pixels) })
+    }
+
+    /// What the codec promises of its own search: a turn for each pixel but the last, and 128 for each 128 of these.
+    fn turns(&self, pixels: usize) -> usize {
+        (pixels - 1) + (pixels - 1) / 128 * 128
     }
 
     /// "Delta: kind 7. Only rows with a change, one skip word before each gap, none after the last."

@@ -26,6 +26,7 @@ use top_level::TopLevel;
 use trailer::Trailers;
 
 pub use build::Outcome;
+pub use encode::Searched;
 pub use file_header::{field, FileHeader, FILE_HEADER};
 pub use listing::{MOST_DEPTH, MOST_LISTED};
 pub use player::Event;
@@ -90,6 +91,10 @@ impl Model {
         out: &mut [u8],
     ) -> Result<usize, Refusal> {
         self.house.rewrite_frame(self, bytes, width, height, previous, work, out)
+    }
+
+    pub fn search_row(&self, row: &[u8]) -> Result<Searched, Refusal> {
+        self.house.search_row(row)
     }
 
     pub fn check_reel(&self, bytes: &[u8], first: PairMut, second: PairMut) -> Result<(), Refusal> {

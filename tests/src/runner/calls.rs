@@ -74,7 +74,7 @@ macro_rules! made {
 }
 
 /// The rows, in the order in which the damage test makes its calls.
-pub const ROWS: [&Row; 15] = [
+pub const ROWS: [&Row; 16] = [
     &ReadCase::ROW,
     &WriteCase::ROW,
     &RewriteCase::ROW,
@@ -87,6 +87,7 @@ pub const ROWS: [&Row; 15] = [
     &ListCase::ROW,
     &HeaderCase::ROW,
     &StepCase::ROW,
+    &SearchCase::ROW,
     &StartCase::ROW,
     &TickCase::ROW,
     &ReplayCase::ROW,
@@ -497,6 +498,29 @@ impl Call for StepCase {
 
     fn furthest(&self) -> u64 {
         self.at.max(self.bytes.len() as u64)
+    }
+}
+
+/// flic_search_row.
+#[derive(Clone, Debug, PartialEq, Eq)]
+pub struct SearchCase(pub Vec<u8>);
+
+impl SearchCase {
+    pub const ROW: Row = Row {
+        function: "search_row",
+        name: "search for a row",
+        unit: "rows",
+        lends: &["row"],
+        numbers: &[0, 2],
+        ..PLAIN
+    };
+}
+
+impl Call for SearchCase {
+    made!(self, [row], search_row(row));
+
+    fn slices(&self) -> Vec<&[u8]> {
+        vec![&self.0]
     }
 }
 

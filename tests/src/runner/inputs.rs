@@ -2,7 +2,7 @@
 
 use super::calls::{
     AddCase, Call, CheckCase, CheckTrailerCase, CloseCase, HeaderCase, ListCase, OpenCase, ReadCase, ReplayCase,
-    RewriteCase, StartCase, StepCase, TickCase, WriteCase, WriteTrailerCase,
+    RewriteCase, SearchCase, StartCase, StepCase, TickCase, WriteCase, WriteTrailerCase,
 };
 use crate::rng::{mix, Rng};
 use crate::states::State;
@@ -58,6 +58,7 @@ cases! {
     List(ListCase),
     Header(HeaderCase),
     Step(StepCase),
+    Search(SearchCase),
     Around(AroundCase),
     Start(StartCase),
     Tick(TickCase),
@@ -81,6 +82,7 @@ impl Case {
             Case::List(call) => call,
             Case::Header(call) => call,
             Case::Step(call) => call,
+            Case::Search(call) => call,
             Case::Start(call) | Case::Live(LiveCase { start: call, .. }) => call,
             Case::Tick(call) => call,
             Case::Replay(call) => call,

@@ -1,7 +1,7 @@
 //! What a call answers, whichever it is: the number and the place that all give, and what goes with them.
 
-use crate::model::{Event, FileHeader, Outcome, Refusal, Span as Chunk};
-use flic_boundary::{Answer, Header, Player, PlayerAnswer, Reel, ReelAnswer, Span, Ticked, Written};
+use crate::model::{Event, FileHeader, Outcome, Refusal, Searched, Span as Chunk};
+use flic_boundary::{Answer, Header, Player, PlayerAnswer, Reel, ReelAnswer, RowCost, Span, Ticked, Written};
 
 #[derive(Clone, Copy, Debug, PartialEq, Eq)]
 pub struct Told {
@@ -26,6 +26,11 @@ pub enum Rest {
     Span {
         from: u64,
         end: u64,
+    },
+    /// A row's packets, and the search for them.
+    Cost {
+        bytes: u64,
+        turns: u64,
     },
     Player(Player),
     /// What a tick did.
@@ -85,6 +90,12 @@ impl From<Span> for Told {
     }
 }
 
+impl From<RowCost> for Told {
+    fn from(RowCost { number, place, bytes, turns }: RowCost) -> Told {
+        Told { number, place, rest: Rest::Cost { bytes, turns } }
+    }
+}
+
 impl From<PlayerAnswer> for Told {
     fn from(PlayerAnswer { number, place, player }: PlayerAnswer) -> Told {
         Told { number, place, rest: Rest::Player(player) }
@@ -132,6 +143,13 @@ impl From<Result<Chunk, Refusal>> for Told {
     fn from(answer: Result<Chunk, Refusal>) -> Told {
         let refused = Rest::Span { from: 0, end: 0 };
         Told::of(answer, refused, |Chunk { start, end }| Rest::Span { from: start as u64, end: end as u64 })
+    }
+}
+
+impl From<Result<Searched, Refusal>> for Told {
+    fn from(answer: Result<Searched, Refusal>) -> Told {
+        let refused = Rest::Cost { bytes: 0, turns: 0 };
+        Told::of(answer, refused, |Searched { bytes, turns }| Rest::Cost { bytes: bytes as u64, turns: turns as u64 })
     }
 }
 

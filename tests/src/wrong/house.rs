@@ -1,7 +1,7 @@
 //! Other house forms, and other ways to write and rewrite a frame in it.
 
 use super::{readings, rules};
-use crate::model::encode::{equal_pixels, push_row_skip, sub_chunk, BrunPacket, House};
+use crate::model::encode::{equal_pixels, push_row_skip, sub_chunk, BrunPacket, House, Searched};
 use crate::model::{kind, long_enough, number, require, Document, Model, Refusal, FRAME_HEADER};
 use flic_boundary::{Pair, PairMut};
 
@@ -26,6 +26,8 @@ rules! { House;
     OtherMostPairs: most_pairs() -> usize;
     OtherMostBrun: most_brun() -> (usize, usize);
     OtherPairChanged: pair_changed(was: &[u8], is: &[u8]) -> bool;
+    OtherTurns: turns(pixels: usize) -> usize;
+    OtherSearchRow: search_row(row: &[u8]) -> Result<Searched, Refusal>;
     OtherSetsPair: sets_pair(answer: &Result<usize, Refusal>) -> bool;
     OtherRewriteFrame: rewrite_frame(
         model: &Model, bytes: &[u8], width: u64, height: u64, previous: Pair, work: PairMut, out: &mut [u8]
@@ -95,4 +97,19 @@ readings! { REWRITING: House;
         require(out.len() >= FRAME_HEADER, number::SHORT_OUTPUT, 0)?;
         Document.rewrite_frame(model, bytes, width, height, previous, work, out)
     });
+}
+
+readings! { SEARCHING: House;
+    IgnoredByteCounted = OtherSearchRow(|row| {
+        let Searched { bytes, turns } = Document.search_row(row)?;
+        Ok(Searched { bytes: bytes + 1, turns })
+    });
+    LastPixelCounted = OtherTurns(|pixels| Document.turns(pixels) + 1);
+    SweepsUncounted = OtherTurns(|pixels| pixels - 1);
+    SweepEvery127 = OtherTurns(|pixels| (pixels - 1) + (pixels - 1) / 127 * 128);
+    EmptyRowSearched = OtherSearchRow(|row| match row {
+        [] => Ok(Searched { bytes: 0, turns: 0 }),
+        _ => Document.search_row(row),
+    });
+    RowOf321Searched = OtherSearchRow(|row| Document.search_row(&row[..row.len().min(320)]));
 }

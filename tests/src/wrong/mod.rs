@@ -20,7 +20,7 @@ use crate::runner::lent::{Lent, Side};
 use crate::runner::told::{Rest, Told};
 use crate::runner::wrongs::{models, see, Deed, Telling, Trespasser, Wrong};
 use crate::trailers::families as trailer_families;
-use crate::write_cases::{REWRITE_FAMILIES, SINGLE_REWRITES, SINGLE_WRITES, WRITE_FAMILIES};
+use crate::write_cases::{REWRITE_FAMILIES, SEARCH_FAMILIES, SINGLE_REWRITES, SINGLE_WRITES, WRITE_FAMILIES};
 use flic_boundary::Player;
 
 /// For a rule of a part of the documents: readings that take this rule otherwise, and all others as they stand.
@@ -157,6 +157,19 @@ pub fn tellers() -> Vec<Wrong> {
     ]
 }
 
+/// The same of searches.
+fn search_tellers() -> Vec<Wrong> {
+    let searched = |told: Told| match told.number {
+        0 => told,
+        _ => Told { rest: Rest::Cost { bytes: 1, turns: 0 }, ..told },
+    };
+    vec![Wrong::of(
+        "a refused search that tells bytes",
+        Telling { function: "search_row", altered: searched },
+        &["search_row"],
+    )]
+}
+
 /// The same of players.
 pub fn player_tellers() -> Vec<Wrong> {
     let started = |told: Told| match told.rest {
@@ -221,6 +234,11 @@ pub fn seen_in_writing(base: u64) -> Vec<Wrong> {
     rewrites.extend(trespassers(&REWRITING));
     see(&mut rewrites, &listed(&REWRITE_FAMILIES[..SINGLE_REWRITES]), 3_000, base);
     writes.extend(rewrites);
+    let least = [with!(house: house::SEARCHING), named(&["RepeatAtEveryEqualPair"], with!(house: house::WRITING))];
+    let mut searches = models(least.concat(), &["search_row"]);
+    searches.extend(search_tellers());
+    see(&mut searches, &listed(&SEARCH_FAMILIES), 30_000, base);
+    writes.extend(searches);
     writes
 }
 
