@@ -114,7 +114,7 @@ numbers =
     -- "0, 31, 32, 63 give 0, 125, 130, 255" (document 02, Req 02)
     ∷ reads 1 1 FLI-COLOR (0x01 ∷ 0x00 ∷ 0x00 ∷ 0x02 ∷ 0 ∷ 31 ∷ 32 ∷ 63 ∷ 15 ∷ 16 ∷ []) (setsColours 0 (0 ∷ 125 ∷ 130 ∷ 255 ∷ 60 ∷ 65 ∷ []))
     ∷ reads 1 1 FLI-COLOR (0x01 ∷ 0x00 ∷ 0x00 ∷ 0x01 ∷ 64 ∷ 32 ∷ 1 ∷ []) (refusedWith 13)
-    ∷ reads 4 1 FLI-LC (0x00 ∷ 0x00 ∷ 0x01 ∷ 0x00 ∷ 0x01 ∷ 0x01 ∷ 0x00 ∷ 0x02 ∷ 5 ∷ 6 ∷ []) (setsPixels 1 (5 ∷ 6 ∷ []))
+    ∷ reads 4 1 FLI-LC (0x00 ∷ 0x00 ∷ 0x01 ∷ 0x00 ∷ 0x01 ∷ 0x01 ∷ 0x02 ∷ 5 ∷ 6 ∷ []) (setsPixels 1 (5 ∷ 6 ∷ []))
     ∷ reads 2 1 FLI-BLACK [] (setsPixels 0 (0 ∷ 0 ∷ []))
     ∷ reads 2 1 FLI-BRUN (0x01 ∷ 0x02 ∷ 7 ∷ []) (setsPixels 0 (7 ∷ 7 ∷ []))
     ∷ reads 2 1 FLI-COPY (3 ∷ 4 ∷ []) (setsPixels 0 (3 ∷ 4 ∷ []))

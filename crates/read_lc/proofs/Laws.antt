@@ -25,29 +25,25 @@ use Rattle.read_lc.specs.declared.Start.the-variants.{Fault, Row}
 -- a row's start
 
 module _ (b : List ℕ) (at : ℕ) where
-  pub start-cut : length b < at + 2 → startAt b at ≡ Fault BodyEnds
+  pub start-cut : length b < at + 1 → startAt b at ≡ Fault BodyEnds
   unfolding startAt
-  start-cut h = simp (lt-leb (at + 2) (length b) h)
+  start-cut h = simp (lt-leb (at + 1) (length b) h)
 
-  pub start-whole : at + 2 ≤ length b → startAt b at ≡ Row (getD b at 0) (getD b (at + 1) 0) (at + 2)
+  pub start-whole : at + 1 ≤ length b → startAt b at ≡ Row (getD b at 0) (at + 1)
   unfolding startAt
-  start-whole h = simp (le-leb (at + 2) (length b) h)
+  start-whole h = simp (le-leb (at + 1) (length b) h)
 
--- a start that is no fault: its column is a byte of the body, and the packets begin within it
-pub record StartIn (b : List ℕ) (at x from : ℕ) : Type 0 where
-  pub column : x ≡ getD b at 0
-  pub in-body : from ≤ length b
-
-pub start-in : (b : List ℕ) (at x count from : ℕ) → startAt b at ≡ Row x count from → StartIn b at x from
-start-in b at x count from e =
-    by-test (λ p. StartIn b at x from) (leb (at + 2) (length b))
+-- behind a start that is no fault the packets begin within the body
+pub start-in : (b : List ℕ) (at count from : ℕ) → startAt b at ≡ Row count from → from ≤ length b
+start-in b at count from e =
+    by-test (λ p. from ≤ length b) (leb (at + 1) (length b))
     (λ h.
-    let k = leb-true (at + 2) (length b) h in
+    let k = leb-true (at + 1) (length b) h in
     let f = start-whole b at k in
-    let n : at + 2 ≡ from = cc in
-    record { column = cc; in-body = omega arith })
+    let n : at + 1 ≡ from = cc in
+    omega arith)
     (λ h.
-    let f = start-cut b at (leb-false (at + 2) (length b) h) in
+    let f = start-cut b at (leb-false (at + 1) (length b) h) in
     let z : _≡_ {A = ℕ} 0 1 = cc in
     absurd (omega arith))
 
@@ -64,9 +60,9 @@ module _ (w : ℕ) (b : List ℕ) where
     where
       go : (s : Start) → startAt b at ≡ s → rowAt w b row at .verdict ≡ rowAt w b 0 at .verdict
       go (Fault e) q = ap (λ (k : Walk). k .verdict) (row-as row at (Fault e) q ∙ sym (row-as 0 at (Fault e) q))
-      go (Row x count from) q =
-          ap (λ (k : Walk). k .verdict) (row-as row at (Row x count from) q) ∙ packets-row 1 w b count row from x
-          ∙ sym (ap (λ (k : Walk). k .verdict) (row-as 0 at (Row x count from) q))
+      go (Row count from) q =
+          ap (λ (k : Walk). k .verdict) (row-as row at (Row count from) q) ∙ packets-row 1 w b count row from 0
+          ∙ sym (ap (λ (k : Walk). k .verdict) (row-as 0 at (Row count from) q))
 
   -- its data ends within the body, and it writes bytes of it, within a picture of h rows
   pub row-sound : (h row at : ℕ) → row < h → Sound b (w * h) (rowAt w b row at)
@@ -74,7 +70,7 @@ module _ (w : ℕ) (b : List ℕ) where
     where
       go : (s : Start) → startAt b at ≡ s → Sound b (w * h) (rowAt w b row at)
       go (Fault e) q = rw (row-as row at (Fault e) q) (sound-fault b (w * h) e)
-      go (Row x count from) q = rw (row-as row at (Row x count from) q) (packets-sound 1 w b h count row from x (start-in b at x count from q .in-body) k)
+      go (Row count from) q = rw (row-as row at (Row count from) q) (packets-sound 1 w b h count row from 0 (start-in b at count from q) k)
 
 -- rows
 

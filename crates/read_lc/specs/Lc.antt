@@ -10,17 +10,17 @@ use Rattle.read_packets.specs.Packets.{packets}
 use Rattle.read_lc.specs.declared.Start.{Start}
 use Rattle.read_lc.specs.declared.Start.the-variants.{Fault, Row}
 
--- "Each row: starting x, packet count", each of one byte; "two bytes (7, also for each .. row start)"
+-- "rows begin with the packet count alone"; "A row start is one byte" (document 02, Req 04), 7 where it isn't there
 unfoldable pub startAt : List ℕ → ℕ → Start
 startAt b at =
-    require leb (at + 2) (length b) else Fault BodyEnds then
-    Row (getD b at 0) (getD b (at + 1) 0) (at + 2)
+    require leb (at + 1) (length b) else Fault BodyEnds then
+    Row (getD b at 0) (at + 1)
 
 module _ (w : ℕ) (b : List ℕ) where
-  -- a row's packets, on row row
+  -- a row's packets, on row row: "x starts at 0 and the first packet's skip does the work"
   abbrev pub afterStart : ℕ → Start → Walk
   afterStart row (Fault e) = fault e
-  afterStart row (Row x count from) = packets 1 w b count row from x
+  afterStart row (Row count from) = packets 1 w b count row from 0
 
   -- the row at offset at
   unfoldable pub rowAt : ℕ → ℕ → Walk

@@ -9,10 +9,10 @@ ghost use Rattle.walk.specs.Walk.{Ended};
 ghost use Rattle.walk.specs.declared.Verdict.the-variants.{Ends};
 ghost use Rattle.read_lc.specs.Lc.{startAt, rowAt, lc};
 
-// A row's start: a fault, or the starting column, the packet count and the offset of the first packet.
+// A row's start: a fault, or the packet count and the offset of the first packet.
 pub enum Start {
     Fault(answer::Refusal),
-    Row { x: usize, count: usize, from: usize },
+    Row { count: usize, from: usize },
 }
 
 // The row start at offset at.
@@ -20,13 +20,12 @@ fn start_at(body: &[u8], at: usize) -> Start
     requires { ⌜ at ≤ length (now body) ⌝ }
     ensures { λ r. ⌜ r ≡ startAt (now (body .entry)) at ⌝ }
 {
-    if body.len() - at < 2 {
+    if body.len() - at < 1 {
         return Start::Fault(answer::Refusal::BodyEnds);
     }
     Start::Row {
-        x: words::wide(body[at]),
-        count: words::wide(body[at + 1]),
-        from: at + 2,
+        count: words::wide(body[at]),
+        from: at + 1,
     }
 }
 
@@ -37,14 +36,9 @@ fn check_row(body: &[u8], at: usize, width: usize) -> walk::Verdict
 {
     match start_at(body, at) {
         Start::Fault(e) => walk::Verdict::Fault(e),
-        Start::Row { x, count, from } => read_packets::check_packets(
-            body,
-            count,
-            from,
-            x,
-            width,
-            1,
-        ),
+        Start::Row { count, from } => {
+            read_packets::check_packets(body, count, from, 0, width, 1)
+        }
     }
 }
 
@@ -57,8 +51,8 @@ fn play_row(picture: &mut [u8], body: &[u8], at: usize, width: usize, row: usize
 {
     match start_at(body, at) {
         Start::Fault(_) => at,
-        Start::Row { x, count, from } => {
-            read_packets::play_packets(picture, body, count, from, x, width, row, 1)
+        Start::Row { count, from } => {
+            read_packets::play_packets(picture, body, count, from, 0, width, row, 1)
         }
     }
 }

@@ -9,15 +9,14 @@ use Rattle.read_lc.proofs.check_row.Tie as tie
 
 check-packets-requires : tie.Need-check-packets-requires
 check-packets-requires c κs =
-    let i = start-in _ _ _ _ _ (sym (c .before .before .before .start-at .ensures) ∙ c .before .x .given .1) in
-    (i .in-body, omega (arith, i .column, c .before .before .before .before .shared-slice-known .given (c .before .before .before .before .before .args .at)), c .before .before .before .before .before .pre .1, omega arith, omega arith)
+    (start-in _ _ _ _ (sym (c .before .before .before .start-at .ensures) ∙ c .before .count .given .1), omega arith, c .before .before .before .before .before .pre .1, omega arith, omega arith)
 
 returns : tie.Need-returns
 returns c = sym (ap (λ (k : Walk). k .verdict) (row-as _ _ _ _ _ (sym (c .before .before .before .start-at .ensures) ∙ c .before .e .given .1)))
 
 returns-2 : tie.Need-returns-2
 returns-2 c =
-    c .check-packets .ensures ∙ sym (ap (λ (k : Walk). k .verdict) (row-as _ _ _ _ _ (sym (c .before .before .before .before .start-at .ensures) ∙ c .before .before .x .given .1)))
+    c .check-packets .ensures ∙ sym (ap (λ (k : Walk). k .verdict) (row-as _ _ _ _ _ (sym (c .before .before .before .before .start-at .ensures) ∙ c .before .before .count .given .1)))
 
 pub check-row-spec : {M : Type 1} → statement M
 check-row-spec =
