@@ -268,12 +268,8 @@ impl Maker<'_> {
 
     fn lc_row(&mut self, body: &mut Vec<u8>) {
         let packets = if self.rng.once_in(60) { 255 } else { self.packets_wanted() };
-        let start = match packets {
-            0 => self.rng.byte() as usize,
-            _ => self.skip_up_to(self.width.min(255)),
-        };
-        body.extend([start as u8, packets as u8]);
-        self.delta_packets(body, start, packets, 1);
+        body.push(packets as u8);
+        self.delta_packets(body, packets, 1);
     }
 
     fn ss2(&mut self) -> Vec<u8> {
@@ -343,12 +339,12 @@ impl Maker<'_> {
     fn ss2_packets(&mut self, lines: &mut Vec<u8>) {
         let packets = if self.rng.once_in(60) { self.rng.between(250, 300) } else { self.packets_wanted() };
         lines.extend((packets as u16).to_le_bytes());
-        self.delta_packets(lines, 0, packets, 2);
+        self.delta_packets(lines, packets, 2);
     }
 
-    /// Packets of LC (`unit` 1) or SS2 (`unit` 2), from column `start` on.
-    fn delta_packets(&mut self, bytes: &mut Vec<u8>, start: usize, packets: usize, unit: usize) {
-        let mut x = start;
+    /// Packets of LC (`unit` 1) or SS2 (`unit` 2), from column 0 on.
+    fn delta_packets(&mut self, bytes: &mut Vec<u8>, packets: usize, unit: usize) {
+        let mut x = 0;
         for _ in 0..packets {
             let left = self.width.saturating_sub(x);
             let skip = self.skip_up_to(left.min(255));

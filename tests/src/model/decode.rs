@@ -176,14 +176,13 @@ pub trait Frames {
         }
     }
 
-    /// "12 LC. First row (2), row count (2) .. Each row: starting x, packet count." Checks: "two bytes (7, also for
-    /// each word and row start)".
+    /// "12 LC. First row (2), row count (2)"; then the rows. Checks: "7, also for each word and row start".
     fn lc(&self, data: &mut Data, screen: &mut Screen) -> Result<(), u32> {
         let (first, count) = (data.word()? as usize, data.word()? as usize);
         self.lc_rows(first, count, screen.height)?;
         for row in first..first + count {
-            let (x, packets) = data.two()?;
-            self.lc_row(data, screen, row, x as usize, packets)?;
+            let start = self.lc_start(data)?;
+            self.lc_row(data, screen, row, start)?;
         }
         Ok(())
     }
@@ -196,9 +195,15 @@ pub trait Frames {
         Ok(())
     }
 
-    fn lc_row(&self, data: &mut Data, screen: &mut Screen, row: usize, start: usize, packets: u8) -> Result<(), u32> {
-        let mut x = start;
-        for _ in 0..packets {
+    /// "rows begin with the packet count alone .. x starts at 0 and the first packet's skip does the work. A row start
+    /// is one byte" (document 02, Req 04).
+    fn lc_start(&self, data: &mut Data) -> Result<RowStart, u32> {
+        Ok(RowStart { x: 0, packets: data.byte()? })
+    }
+
+    fn lc_row(&self, data: &mut Data, screen: &mut Screen, row: usize, start: RowStart) -> Result<(), u32> {
+        let mut x = start.x;
+        for _ in 0..start.packets {
             x = self.delta_packet(data, screen, row, x, 1)?;
         }
         Ok(())
@@ -324,6 +329,12 @@ pub struct SubChunk {
 pub struct Packet {
     pub repeats: bool,
     pub count: usize,
+}
+
+/// Where a row of LC begins, and how many packets it has.
+pub struct RowStart {
+    pub x: usize,
+    pub packets: u8,
 }
 
 pub enum Ss2Word {
@@ -497,14 +508,23 @@ mod tests {
         assert_eq!(number_of(kind::LC, &[1, 0, 0, 0], 2, 1), 0);
         assert_eq!(number_of(kind::LC, &[2, 0, 0, 0], 2, 1), 10);
         assert_eq!(number_of(kind::LC, &[0, 0, 2, 0], 2, 1), 10);
+        assert_eq!(number_of(kind::LC, &[0, 0, 1, 0], 2, 1), 7);
+        assert_eq!(number_of(kind::LC, &[0, 0, 1, 0, 0], 2, 1), 0);
+        assert_eq!(number_of(kind::LC, &[0, 0, 2, 0, 0], 2, 2), 7);
         assert_eq!(number_of(kind::LC, &[0, 0, 1, 0, 255], 2, 1), 7);
-        assert_eq!(number_of(kind::LC, &[0, 0, 1, 0, 255, 0], 2, 1), 0);
-        assert_eq!(number_of(kind::LC, &[0, 0, 1, 0, 0, 1, 0], 2, 1), 7);
-        assert_eq!(number_of(kind::LC, &[0, 0, 1, 0, 0, 1, 1, 2], 2, 1), 9);
-        assert_eq!(number_of(kind::LC, &[0, 0, 1, 0, 0, 1, 1, 1], 2, 1), 7);
-        assert_eq!(number_of(kind::LC, &[0, 0, 1, 0, 2, 1, 0, 0], 2, 1), 0);
-        assert_eq!(number_of(kind::LC, &[0, 0, 1, 0, 2, 1, 1, 0], 2, 1), 9);
-        assert_eq!(row_of(kind::LC, &[0, 0, 1, 0, 1, 2, 1, 0xFE, 5, 0, 1, 6], 6), [FILL, FILL, 5, 5, 6, FILL]);
+        assert_eq!(number_of(kind::LC, &[0, 0, 1, 0, 1, 0], 2, 1), 7);
+        assert_eq!(number_of(kind::LC, &[0, 0, 1, 0, 1, 1, 2], 2, 1), 9);
+        assert_eq!(number_of(kind::LC, &[0, 0, 1, 0, 1, 1, 1], 2, 1), 7);
+        assert_eq!(number_of(kind::LC, &[0, 0, 1, 0, 1, 2, 0], 2, 1), 0);
+        assert_eq!(number_of(kind::LC, &[0, 0, 1, 0, 1, 3, 0], 2, 1), 9);
+    }
+
+    #[test]
+    fn lc_rows_begin_with_the_packet_count() {
+        assert_eq!(row_of(kind::LC, &[0, 0, 1, 0, 1, 0, 1, 9], 3), [9, FILL, FILL]);
+        assert_eq!(row_of(kind::LC, &[0, 0, 1, 0, 2, 2, 0xFE, 5, 0, 1, 6], 6), [FILL, FILL, 5, 5, 6, FILL]);
+        let two_rows = read_body(kind::LC, &[1, 0, 2, 0, 0, 1, 1, 1, 8], 2, 3);
+        assert_eq!(two_rows.picture, [FILL, FILL, FILL, FILL, FILL, 8]);
     }
 
     #[test]

@@ -96,6 +96,41 @@ fn all_levels() -> (Vec<u8>, Vec<u8>) {
 const FOUR_BY_TWO: [u8; 28] =
     [0x1C, 0, 0, 0, 0xFA, 0xF1, 1, 0, 0, 0, 0, 0, 0, 0, 0, 0, 0x0C, 0, 0, 0, 0x0F, 0, 1, 4, 0, 1, 4, 5];
 
+/// Deltas as the original Animator stored them (document 02, Req 04): kind 12, whose rows begin with the packet count.
+fn of_animator() -> Vec<Example> {
+    let mut column_265 = [FILL; 320];
+    column_265[265] = 7;
+    let of = |kind, body: &[u8]| Chunk { kind, body: body.to_vec() };
+    let rows = [FILL, FILL, 1, 2, FILL, FILL, 3, 3, FILL, FILL];
+    let mut with_colours = read_gives(
+        "Animator: colours and a delta",
+        frame_of(&[of(kind::COLOR, &[1, 0, 1, 1, 63, 0, 31]), of(kind::LC, &[0, 0, 1, 0, 1, 1, 1, 4])]),
+        3,
+        &[FILL, 4, FILL],
+    );
+    with_colours.left[2][3..6].copy_from_slice(&[255, 0, 125]);
+    vec![
+        body_gives("Animator: column 0", kind::LC, &[0, 0, 1, 0, 1, 0, 1, 9], &[9, FILL, FILL]),
+        body_gives(
+            "Animator: a repeat, then a copy",
+            kind::LC,
+            &[0, 0, 1, 0, 2, 2, 0xFE, 5, 0, 1, 6],
+            &[FILL, FILL, 5, 5, 6, FILL],
+        ),
+        body_gives("Animator: a gap over 255", kind::LC, &[0, 0, 1, 0, 2, 255, 0, 10, 1, 7], &column_265),
+        read_gives(
+            "Animator: a row without change between two",
+            frame_of(&[of(kind::LC, &[1, 0, 3, 0, 1, 0, 2, 1, 2, 0, 1, 0, 0xFE, 3])]),
+            2,
+            &rows,
+        ),
+        with_colours,
+        body_gives("Animator: the last row has no start", kind::LC, &[0, 0, 1, 0], &[FILL]).refused(7, 16),
+        body_gives("a starting x, as document 001 has it", kind::LC, &[0, 0, 1, 0, 2, 1, 0, 1, 9], &[FILL; 6])
+            .refused(9, 16),
+    ]
+}
+
 pub fn of_reading() -> Vec<Example> {
     let mut columns_10_and_11 = [FILL; 100];
     columns_10_and_11[10..12].fill(0);
@@ -105,7 +140,7 @@ pub fn of_reading() -> Vec<Example> {
     let (levels, raised) = all_levels();
     let mut every_level = read_gives("all 64 levels", colours(kind::COLOR, &levels), 1, &[FILL]);
     every_level.left[2][..raised.len()].copy_from_slice(&raised);
-    vec![
+    let mut all = vec![
         every_level,
         body_gives("1 1 2", kind::BRUN, &[2, 2, 1, 1, 2], &[1, 1, 2]),
         body_gives("1 2 2 3", kind::BRUN, &[1, 0xFC, 1, 2, 2, 3], &[1, 2, 2, 3]),
@@ -118,7 +153,9 @@ pub fn of_reading() -> Vec<Example> {
         last_colour,
         body_gives("skip 255 count 2", kind::COLOR256, past, &[FILL]).refused(12, 16),
         body_gives("row skip FF FF, height 1", kind::SS2, &[1, 0, 0xFF, 0xFF, 0, 0], &[FILL]).refused(10, 16),
-    ]
+    ];
+    all.extend(of_animator());
+    all
 }
 
 /// Two pictures and the sub-chunk of the frame between them, if there is one.
@@ -142,6 +179,20 @@ fn levels_rewritten() -> Example {
     let bytes = colours(kind::COLOR, &levels);
     let case = RewriteCase { bytes, width: 1, height: 1, previous: blank.clone(), work: blank, out };
     Example::done("all 64 levels, rewritten", case, Rest::Length(house.len() as u64), &[(4, next), (5, left)])
+}
+
+/// Columns 10 and 11 of 100 pixels set to 0 by kind 12: in house form the kind 7 of document 01's numbers.
+fn animator_rewritten() -> Example {
+    let slope = State { picture: (0..100).collect(), palette: vec![0; PALETTE_BYTES] };
+    let mut next = slope.picture.clone();
+    next[10..12].fill(0);
+    let frame = |kind, body: &[u8]| frame_of(&[Chunk { kind, body: body.to_vec() }]);
+    let house = frame(kind::SS2, &[1, 0, 1, 0, 0x0A, 1, 0, 0]);
+    let out = vec![0xEE; 1000];
+    let left = [&house[..], &out[house.len()..]].concat();
+    let bytes = frame(kind::LC, &[0, 0, 1, 0, 1, 10, 0xFE, 0]);
+    let case = RewriteCase { bytes, width: 100, height: 1, previous: slope, work: State::blank(100), out };
+    Example::done("Animator: a delta, rewritten", case, Rest::Length(house.len() as u64), &[(3, next), (5, left)])
 }
 
 /// Rows that BRUN packs best, coming after a picture of which no pixel stays.
@@ -175,6 +226,7 @@ pub fn of_writing() -> Vec<Example> {
             &[&[2, 1, 0, 0x80], &no_neighbours_equal[1..], &[2, 0x7F, 5, 2, 5]].concat(),
         ),
         levels_rewritten(),
+        animator_rewritten(),
     ]
 }
 
@@ -195,6 +247,17 @@ fn ring_of_levels(name: &'static str, first: [u8; 3], ring: [u8; 3]) -> Example 
     } else {
         example.refused(16, place)
     }
+}
+
+/// A check of a reel of 1 by 1 and two frames: pixel 5, pixel 6, and a ring back to 5, each by kind 12.
+fn ring_of_animator() -> Example {
+    let pixel = |pixel| frame_of(&[Chunk { kind: kind::LC, body: vec![0, 0, 1, 0, 1, 0, 1, pixel] }]);
+    let mut bytes = [&blank_reel()[..128], &pixel(5), &pixel(6), &pixel(5)].concat();
+    let size = bytes.len() as u32;
+    bytes[..4].copy_from_slice(&size.to_le_bytes());
+    bytes[6] = 2;
+    let case = CheckCase { bytes, first: State::blank(1), second: State::blank(1) };
+    Example::done("Animator: a ring that leads back", case, Rest::Nothing, &[(1, vec![5]), (3, vec![5])])
 }
 
 /// The blank reel of 1 by 1: opened, added to, closed and checked.
@@ -218,6 +281,7 @@ pub fn of_reels() -> Vec<Example> {
         Example::done("1 by 1 blank reel, checked", check, Rest::Nothing, &[]),
         ring_of_levels("a ring of levels that leads back", [255, 125, 130], [63, 31, 32]),
         ring_of_levels("a ring of levels times 4", [252, 124, 128], [63, 31, 32]),
+        ring_of_animator(),
     ]
 }
 

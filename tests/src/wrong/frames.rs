@@ -1,7 +1,7 @@
 //! Other readings of a frame.
 
 use super::{readings, rules};
-use crate::model::decode::{Data, FrameHeader, Frames, Line, Packet, Screen, Ss2Word};
+use crate::model::decode::{Data, FrameHeader, Frames, Line, Packet, RowStart, Screen, Ss2Word};
 use crate::model::{kind, long_enough, number, size_at, Document, Refusal, FRAME_HEADER};
 use flic_boundary::PairMut;
 use std::ops::Range;
@@ -27,7 +27,8 @@ rules! { Frames;
     ) -> Result<(), u32>;
     OtherColourCount: colour_count(stored: u8) -> usize;
     OtherLcRows: lc_rows(first: usize, count: usize, height: usize) -> Result<(), u32>;
-    OtherLcRow: lc_row(data: &mut Data, screen: &mut Screen, row: usize, start: usize, packets: u8) -> Result<(), u32>;
+    OtherLc: lc(data: &mut Data, screen: &mut Screen) -> Result<(), u32>;
+    OtherLcStart: lc_start(data: &mut Data) -> Result<RowStart, u32>;
     OtherFault: fault(number: u32, place: usize) -> Refusal;
     OtherBlack: black(screen: &mut Screen) -> Result<(), u32>;
     OtherFrameHeader: frame_header(bytes: &[u8]) -> Result<FrameHeader, Refusal>;
@@ -110,12 +111,20 @@ readings! { ALL: Frames;
         }
         Document.lc_rows(first, count, height)
     });
-    LcStartChecked = OtherLcRow(|data, screen, row, start, packets| {
-        if start > screen.width {
-            return Err(number::PAST_WIDTH);
+    LcRowStartBeforeHeight = OtherLc(|data, screen| {
+        if data.rest.len() == 4 && data.rest[2..] != [0, 0] {
+            return Err(number::BODY_ENDS);
         }
-        Document.lc_row(data, screen, row, start, packets)
+        Document.lc(data, screen)
     });
+    LcStartingXRead = OtherLcStart(|data| {
+        let start = data.take(2)?;
+        Ok(RowStart { x: start[0] as usize, packets: start[1] })
+    });
+    LcCountOfTwoBytes = OtherLcStart(|data| Ok(RowStart { x: 0, packets: data.take(2)?[0] }));
+    LcFromTheCount = OtherLcStart(|data| Document.lc_start(data).map(|row| RowStart { x: row.packets as usize, ..row }));
+    LcFromColumn1 = OtherLcStart(|data| Document.lc_start(data).map(|row| RowStart { x: 1, ..row }));
+    LcRowStartLeftOut = OtherLcStart(|data| Ok(Document.lc_start(data).unwrap_or(RowStart { x: 0, packets: 0 })));
     PlaceOfFrame = OtherFault(|number, _| Refusal::new(number, 0));
     BlackPastPicture = OtherBlack(|screen| {
         screen.picture.fill(0);
