@@ -7,7 +7,7 @@ from rules import RULES
 PARTS = ("picture", "palette")
 
 # Fewer compared than this means that the test has lost its reach: frames, and pictures and palettes as ours.
-FLOORS = {"ffmpeg": (3400, 2850, 3200), "allegro": (4800, 3800, 4700), "pillow": (4600, 4300, 1800)}
+FLOORS = {"ffmpeg": (3700, 3250, 3650), "allegro": (5300, 4400, 5250), "pillow": (5150, 4950, 2150)}
 
 
 class Tally:

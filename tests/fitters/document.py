@@ -1,4 +1,4 @@
-"""Reads frames as the Animator Pro document and document 01 say; each step can be taken otherwise by a decoder."""
+"""Reads frames as the Animator Pro document and documents 01 and 02 say; each step can be taken otherwise by a decoder."""
 from reel import CHUNK_HEADER, FRAME_HEADER, PALETTE_BYTES, word
 
 COLOR256, SS2, COLOR, LC, BLACK, BRUN, COPY, PSTAMP = 4, 7, 11, 12, 13, 15, 16, 18
@@ -90,7 +90,9 @@ class Document:
     def lc(self, body):
         row, at = word(body, 0, 2), 4
         for row in range(row, row + word(body, 2, 2)):
-            at = self.packets(body, at + 2, row, body[at], body[at + 1], 1)
+            if at >= len(body):
+                raise Unforeseen("a row behind the chunk")
+            at = self.packets(body, at + 1, row, 0, body[at], 1)
 
     def last_pixel(self, row, pixel):
         self.put(row, self.width - 1, bytes([pixel]))

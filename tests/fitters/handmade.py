@@ -1,8 +1,6 @@
 """Frames that the papers allow and house form never writes: every kind, with all the freedoms that a reader grants."""
-import document
 import reel
-from document import BLACK, BRUN, COLOR, COLOR256, COPY, LC, PSTAMP, SS2, Unforeseen
-from outside import Outside
+from document import BLACK, BRUN, COLOR, COLOR256, COPY, LC, PSTAMP, SS2
 
 UNKNOWN = (0, 1, 5, 14, 17, 19, 25, 0x0107, 0x800F)
 
@@ -40,19 +38,19 @@ class Maker:
             body += bytes([count]) + b"".join(packets)
         return reel.chunk(BRUN, body)
 
-    def delta_packets(self, x, unit, pixels):
-        """Packets from column x on, and how many they are."""
-        rng, data = self.rng, b""
+    def delta_packets(self, unit):
+        """Packets from column 0 on, and how many they are."""
+        rng, data, x = self.rng, b"", 0
         count = rng.choice([0, 1, 1, 2, 3])
         for _ in range(count):
             skip = min(rng.choice([0, 0, 1, rng.randrange(256)]), max(0, self.width - x), 255)
             room = min((self.width - x - skip) // unit, 128)
             n = rng.randrange(room + 1) if room > 0 else 0
             if n > 0 and rng.randrange(2):
-                data += bytes([skip, 256 - n]) + pixels(unit)
+                data += bytes([skip, 256 - n]) + rng.randbytes(unit)
             else:
                 n = min(n, 127)
-                data += bytes([skip, n]) + pixels(unit * n)
+                data += bytes([skip, n]) + rng.randbytes(unit * n)
             x += skip + unit * n
         return data, count
 
@@ -64,33 +62,28 @@ class Maker:
                 body, row = body + (65536 - skip).to_bytes(2, "little"), row + skip
             if last_pixels and rng.randrange(2):
                 body += (0x8000 | rng.randrange(0x4000)).to_bytes(2, "little")
-            packets, count = self.delta_packets(0, 2, rng.randbytes)
+            packets, count = self.delta_packets(2)
             body, row, lines = body + count.to_bytes(2, "little") + packets, row + 1, lines + 1
         return reel.chunk(SS2, lines.to_bytes(2, "little") + body)
 
     def lc(self):
-        """A chunk that stays inside the picture with and without a starting x in its rows."""
-        for _ in range(20000):
-            made = self.lc_either_way()
-            if made is not None:
-                return made
-        return reel.chunk(LC, bytes(4))
-
-    def lc_either_way(self):
         rng = self.rng
         first = rng.randrange(self.height)
-        rows = rng.randrange(1, min(4, self.height - first) + 1)
+        rows = rng.randrange(self.height - first + 1)
         body = first.to_bytes(2, "little") + rows.to_bytes(2, "little")
         for _ in range(rows):
-            start = rng.choice([0, 1, 1, 2, min(self.width, 9)])
-            packets, count = self.delta_packets(start, 1, lambda n: bytes(rng.choices([0, 1, 2, 254, 255], k=n)))
-            body += bytes([start, count]) + packets
-        try:
-            for reader in (document.Document, ByCount):
-                reader(self.width, self.height).lc(body)
-        except Unforeseen:
-            return None
+            packets, count = self.delta_packets(1)
+            body += bytes([count]) + packets
         return reel.chunk(LC, body)
+
+    def animator_delta(self, before, after):
+        """Kind 12 as the original Animator wrote it: from the first changed row to the last, gaps by skips alone."""
+        rows = [animator_row(before[at:at + self.width], after[at:at + self.width])
+                for at in range(0, len(before), self.width)]
+        changed = [y for y, row in enumerate(rows) if row != b"\0"]
+        first, last = (changed[0], changed[-1]) if changed else (0, -1)
+        head = first.to_bytes(2, "little") + (last + 1 - first).to_bytes(2, "little")
+        return reel.chunk(LC, head + b"".join(rows[first:last + 1]))
 
     def stamp(self):
         inner = reel.chunk(COPY, self.rng.randbytes(8))
@@ -110,8 +103,23 @@ class Maker:
         return [reel.chunk(COLOR256, b"\1\0\0\0" + palette), self.brun(True, picture)]
 
 
-class ByCount(Outside):
-    """Kind 12 as outside decoders read it."""
-
-    def touch(self, rule):
-        pass
+def animator_row(before, after):
+    """A row of kind 12: the packet count, then for each stretch of changed pixels its skip and its repeats and copies."""
+    packets, x, at = [], 0, 0
+    while at < len(after):
+        if before[at] == after[at]:
+            at += 1
+            continue
+        end, run = at, 1
+        while end < len(after) and before[end] != after[end] and end - at < 127:
+            end += 1
+        while at + run < end and after[at + run] == after[at]:
+            run += 1
+        while at - x > 255:
+            packets, x = packets + [b"\xff\0"], x + 255
+        if run > 2:
+            packets, end = packets + [bytes([at - x, 256 - run, after[at]])], at + run
+        else:
+            packets.append(bytes([at - x, end - at]) + after[at:end])
+        x = at = end
+    return bytes([len(packets)]) + b"".join(packets)

@@ -110,9 +110,22 @@ def mixed_frame(m):
     return frame([even(m.rng.choice(makers)()) for _ in range(m.rng.randrange(5))])
 
 
+def lc_padded_frame(m):
+    return frame([even(m.lc()), even(m.lc())])
+
+
+def lc_odd_frame(m):
+    return frame([m.lc(), m.ss2(False)])
+
+
+def still_frame(m):
+    return frame([] if m.rng.randrange(2) else [even(m.lc())])
+
+
 FRAMES = {f.__name__.removesuffix("_frame"): f for f in (
     colours_frame, levels_frame, dark_levels_frame, brun_frame, copy_frame, ss2_frame, lc_frame, lc_below_frame,
-    stamp_frame, unknown_frame, spare_frame, black_frame, odd_frame, mixed_frame)}
+    stamp_frame, unknown_frame, spare_frame, black_frame, odd_frame, mixed_frame, lc_padded_frame, lc_odd_frame,
+    still_frame)}
 
 
 def first_frame(m):
@@ -137,7 +150,21 @@ def handmade_reels():
     yield "copy-padded", closed(row, [first_frame(row)] + [frame([row.copy(b"\0")]) for _ in range(3)])
     white = Maker(random.Random("white"), 40, 24)
     yield "white", closed(white, [levels_first_frame(white)] + [frame([white.ss2(False)]) for _ in range(4)])
+    yield "animator", animator_reel()
     yield from top_level_reels()
+
+
+def animator_reel():
+    """A whole board as the original Animator stored it: 64 levels, then kind 12, ring included, and one still frame."""
+    rng = random.Random("animator")
+    m, boards = Maker(rng, *WIDE), list(pictures.text(rng, *WIDE, 5))
+    boards.insert(2, boards[1])
+    shown = [picture for picture, _ in boards + boards[:1]]
+    levels = bytes(c // 4 for c in boards[0][1])
+    first = frame([chunk(COLOR, b"\1\0\0\0" + levels), even(m.brun(True, shown[0]))])
+    deltas = [frame([even(m.animator_delta(before, after))] if before != after else [])
+              for before, after in zip(shown, shown[1:])]
+    return reel.file(*WIDE, 70, len(boards), [first, *deltas])
 
 
 def top_level_reels():

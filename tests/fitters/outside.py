@@ -1,6 +1,5 @@
-"""What outside decoders have in common: they say which rules a frame met, and read kind 12 in the same other way."""
-from document import Document, Unforeseen
-from reel import word
+"""What outside decoders have in common: they say which rules a frame met."""
+from document import Document
 from rules import RULES
 
 
@@ -18,12 +17,3 @@ class Outside(Document):
     def touch(self, rule):
         assert rule in RULES[self.name], rule
         self.touched.add(rule)
-
-    def lc(self, body):
-        row, rows, at = word(body, 0, 2), word(body, 2, 2), 4
-        if rows:
-            self.touch("lc-rows")
-        for row in range(row, row + rows):
-            if at >= len(body):
-                raise Unforeseen("a row behind the chunk")
-            at = self.packets(body, at + 1, row, 0, body[at], 1)

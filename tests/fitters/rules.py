@@ -9,14 +9,12 @@ RULES = {
         "speed-over-2000": (ORDER, "text-slow"),
         "last-pixel": (PICTURE, "edges-4-odd"),
         "copy-size": (PICTURE, "copy-1"),
-        "lc-rows": (PICTURE, "lc-1"),
         "lc-below": (BOTH, "lc_below-0"),
         "f5fa-frame": (BOTH, "top-f5fa"),
     },
     "allegro": {
         "odd-chunk": (BOTH, "odd-1"),
         "brun-count": (PICTURE, "brun-2"),
-        "lc-rows": (PICTURE, "lc-1"),
         "prefix-frame": (ORDER, "prefix"),
         "unknown-top": (ORDER, "top-unknown"),
         "loop-palette": (PALETTE, "noise-1-even"),
@@ -27,7 +25,6 @@ RULES = {
         "levels-64": (PALETTE, "white"),
         "ten-bytes": (PICTURE, "black-1"),
         "unknown-kind": (PICTURE, "unknown-2"),
-        "lc-rows": (PICTURE, "lc-1"),
         "top-level-frame": (ORDER, "prefix"),
     },
 }
