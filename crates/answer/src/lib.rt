@@ -40,6 +40,8 @@ pub enum Refusal {
     BadTrailer,
     // 18: adding to a closed reel, a frame too many, closing with none or twice
     WrongTime,
+    // 19: more than one spare byte after a sub-chunk's data
+    SpareBytes,
 }
 
 // Done, or a refusal with its place.
@@ -77,5 +79,6 @@ pub fn number_of(e: Refusal) -> u32
         Refusal::BadRing => 16,
         Refusal::BadTrailer => 17,
         Refusal::WrongTime => 18,
+        Refusal::SpareBytes => 19,
     }
 }

@@ -1,7 +1,7 @@
 -- Demand 2 for one frame: for every two states of one size, the house frame from s to t, read against s, is accepted and gives t (`house-reads-back`).
 -- The idea: each chunk that may be chosen reads back by itself, the choice takes one that is no longer than COPY, so that its size fits the field,
 -- and a frame plays as its sub-chunks do.
-use mathlib.Core.Path.{_≡_, refl, sym, ap, subst}
+use mathlib.Core.Path.{_≡_, refl, sym, ap, subst, _∙_}
 use mathlib.Core.List.{List, [], _∷_, _++_, flatten}
 use mathlib.Core.Bool.{true, cond}
 use Prim.Native.Nat.{ℕ, _+_, _≤_, _<_}
@@ -25,8 +25,11 @@ use Rattle.read_colour.specs.declared.Levels.the-variants.{Of256}
 use Rattle.read_full.specs.Full.{black, copied}
 use Rattle.read_brun.specs.Brun.{brun}
 use Rattle.read_ss2.specs.Ss2.{ss2}
-use Rattle.read_frame.specs.Frame.{ChunkWalk, onPicture, onPalette, subChunk, frame}
+use Rattle.read_frame.specs.Frame.{ChunkWalk, judged, onPicture, onPalette, subChunk, frame}
 use Rattle.read_frame.specs.Reading.{played}
+use Rattle.walk.specs.declared.Verdict.{Verdict}
+use Rattle.walk.specs.declared.Verdict.the-variants.{Ends}
+use Rattle.read_frame.proofs.Laws.{judged-right}
 use Rattle.read_frame.proofs.Sound.{frame-sound, played-exact}
 use Rattle.house_colour.specs.Colours.{colourBody}
 use Rattle.house_colour.proofs.ReadsBack.{colour-reads-back, colour-short}
@@ -42,34 +45,38 @@ use Rattle.house_back.proofs.Frames.{Subs, none, sub, length-framed, fr
 
 -- a walk on the picture or on the palette
 
-on-picture : (k : Walk) (end : ℕ) (p q r : List ℕ) → Gives k end p q → Acts (onPicture k) p r q r
-unfolding applied
-on-picture k end p q r g = record { end = end; ended = g .ended; picture = g .result; palette = refl }
+no-spare : {v : Verdict} (end : ℕ) → v ≡ Ends end → judged end v ≡ Ends end
+no-spare end e = ap (judged end) e ∙ judged-right end end (omega arith)
 
-on-palette : (k : Walk) (end : ℕ) (p q r : List ℕ) → Gives k end p q → Acts (onPalette k) r p r q
+-- of a body with no byte behind its data
+on-picture : (k : Walk) (end : ℕ) (p q r : List ℕ) → Gives k end p q → Acts (onPicture end k) p r q r
 unfolding applied
-on-palette k end p q r g = record { end = end; ended = g .ended; picture = refl; palette = g .result }
+on-picture k end p q r g = record { end = end; ended = no-spare end (g .ended); picture = g .result; palette = refl }
+
+on-palette : (k : Walk) (end : ℕ) (p q r : List ℕ) → Gives k end p q → Acts (onPalette end k) r p r q
+unfolding applied
+on-palette k end p q r g = record { end = end; ended = no-spare end (g .ended); picture = refl; palette = g .result }
 
 -- the kinds that the house form has
 
 module _ (z : Size) (b : List ℕ) where
-  colour-walk : subChunk z FLI-COLOR256 b ≡ onPalette (colour Of256 b)
+  colour-walk : subChunk z FLI-COLOR256 b ≡ onPalette (length b) (colour Of256 b)
   unfolding subChunk
   colour-walk = refl
 
-  delta-walk : subChunk z FLI-SS2 b ≡ onPicture (ss2 (z .width) (z .height) b)
+  delta-walk : subChunk z FLI-SS2 b ≡ onPicture (length b) (ss2 (z .width) (z .height) b)
   unfolding subChunk
   delta-walk = refl
 
-  pub black-walk : subChunk z FLI-BLACK b ≡ onPicture (black (area z))
+  pub black-walk : subChunk z FLI-BLACK b ≡ onPicture (length b) (black (area z))
   unfolding subChunk
   black-walk = refl
 
-  pub brun-walk : subChunk z FLI-BRUN b ≡ onPicture (brun (z .width) (z .height) b)
+  pub brun-walk : subChunk z FLI-BRUN b ≡ onPicture (length b) (brun (z .width) (z .height) b)
   unfolding subChunk
   brun-walk = refl
 
-  pub copy-walk : subChunk z FLI-COPY b ≡ onPicture (copied (area z) b)
+  pub copy-walk : subChunk z FLI-COPY b ≡ onPicture (length b) (copied (area z) b)
   unfolding subChunk
   copy-walk = refl
 
@@ -92,7 +99,7 @@ module _ (z : Size) (p q : List ℕ) (zp : Picture (z .width) (z .height) p) (zq
   abbrev h : ℕ
   h = z .height
 
-  good : (kind : ℕ) (body : List ℕ) (k : Walk) (end : ℕ) → (kind ≡ FLI-COLOR256 → ⊥) → subChunk z kind body ≡ onPicture k → Gives k end p q
+  good : (kind : ℕ) (body : List ℕ) (k : Walk) (end : ℕ) → (kind ≡ FLI-COLOR256 → ⊥) → subChunk z kind body ≡ onPicture end k → Gives k end p q
       → length (chunk kind body) ≤ pictureMost → Good z p q (chunk kind body)
   good kind body k end other e g l =
       record { kind = kind; coloured = other; body = body; is = refl; short = l; acts = λ r. acts-as e (on-picture k end p q r g) }

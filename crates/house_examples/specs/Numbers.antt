@@ -116,6 +116,10 @@ numbers =
     ∷ reads 1 1 FLI-COLOR (0x01 ∷ 0x00 ∷ 0x00 ∷ 0x01 ∷ 64 ∷ 32 ∷ 1 ∷ []) (refusedWith 13)
     ∷ reads 4 1 FLI-LC (0x00 ∷ 0x00 ∷ 0x01 ∷ 0x00 ∷ 0x01 ∷ 0x01 ∷ 0x02 ∷ 5 ∷ 6 ∷ []) (setsPixels 1 (5 ∷ 6 ∷ []))
     ∷ reads 2 1 FLI-BLACK [] (setsPixels 0 (0 ∷ 0 ∷ []))
+    -- a byte of padding is no content, two are refused (document 02, Req 05)
+    ∷ reads 2 1 FLI-BLACK (9 ∷ []) (setsPixels 0 (0 ∷ 0 ∷ []))
+    ∷ reads 2 1 FLI-BLACK (9 ∷ 9 ∷ []) (refusedWith 19)
+    ∷ reads 1 1 FLI-SS2 (0x01 ∷ 0x00 ∷ 0x09 ∷ 0x80 ∷ 0x00 ∷ 0x00 ∷ 0 ∷ 0 ∷ []) (refusedWith 19)
     ∷ reads 2 1 FLI-BRUN (0x01 ∷ 0x02 ∷ 7 ∷ []) (setsPixels 0 (7 ∷ 7 ∷ []))
     ∷ reads 2 1 FLI-COPY (3 ∷ 4 ∷ []) (setsPixels 0 (3 ∷ 4 ∷ []))
     ∷ []

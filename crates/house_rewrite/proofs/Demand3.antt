@@ -38,6 +38,9 @@ use Rattle.house_frame.specs.House.{colourChunk, pictureChunk, houseChunks, fra
 use Rattle.house_frame.proofs.Laws.{picture-short}
 use Rattle.house_back.specs.Plays.{Plays, ByteState}
 use Rattle.house_back.proofs.Frames.{framed-field}
+use Rattle.read_full.specs.Full.{black, copied}
+use Rattle.read_brun.specs.Brun.{brun}
+use Rattle.read_frame.proofs.Laws.{judged-ends}
 use Rattle.house_back.proofs.ReadsBack.{played-bytes, Good, good-picture, black-walk, brun-walk, copy-walk, house-small, subs-small, house-reads-back}
 use Rattle.house_rewrite.proofs.Subs.{same-first, Described, none, more, framed-described, Single, frame-single}
 use Rattle.house_rewrite.specs.Rewriting.{rewrote, rewriteFrame}
@@ -228,7 +231,7 @@ full-shorter z f p q kind size lp k c e =
           length-chunk FLI-BLACK (c .body),
           least .black-chunk
               (record {
-                ended = sym (ap (λ (x : ChunkWalk). x .verdict) (black-walk z (c .body))) ∙ v;
+                ended = judged-ends (length (c .body)) (black (area z) .verdict) (c .end) (sym (ap (λ (x : ChunkWalk). x .verdict) (black-walk z (c .body))) ∙ v);
                 result = sym (ap (λ (x : ChunkWalk). applied (x .pixels) p) (black-walk z (c .body))) ∙ r;
               }),
         )
@@ -239,7 +242,7 @@ full-shorter z f p q kind size lp k c e =
           length-chunk FLI-BRUN (c .body),
           least .brun-chunk
               (record {
-                ended = sym (ap (λ (x : ChunkWalk). x .verdict) (brun-walk z (c .body))) ∙ v;
+                ended = judged-ends (length (c .body)) (brun (z .width) (z .height) (c .body) .verdict) (c .end) (sym (ap (λ (x : ChunkWalk). x .verdict) (brun-walk z (c .body))) ∙ v);
                 result = sym (ap (λ (x : ChunkWalk). applied (x .pixels) p) (brun-walk z (c .body))) ∙ r;
               }),
         )
@@ -250,7 +253,7 @@ full-shorter z f p q kind size lp k c e =
           length-chunk FLI-COPY (c .body),
           least .copy-chunk
               (record {
-                ended = sym (ap (λ (x : ChunkWalk). x .verdict) (copy-walk z (c .body))) ∙ v;
+                ended = judged-ends (length (c .body)) (copied (area z) (c .body) .verdict) (c .end) (sym (ap (λ (x : ChunkWalk). x .verdict) (copy-walk z (c .body))) ∙ v);
                 result = sym (ap (λ (x : ChunkWalk). applied (x .pixels) p) (copy-walk z (c .body))) ∙ r;
               }),
         )

@@ -1,27 +1,33 @@
 -- Laws of the definitions in specs/ that the proofs of the readers cite.
 use mathlib.Core.Path.{_≡_, ap, _∙_, sym, refl, subst}
 use mathlib.Core.List.{List}
-use mathlib.Core.Bool.{true, false}
+use mathlib.Core.Bool.{true, false, cond}
 use Prim.Native.Nat.{ℕ, suc, _≤_, _<_, _+_, _-_}
 use native.Mathlib.Omega.{arith}
-use borrow.Author.Tests.{ne-eqb}
+use borrow.Author.Tests.{ne-eqb, le-leb, lt-leb}
+use lib.Dec.{leb}
+use lib.ListN.{length}
 use Rattle.words.specs.Words.{part}
+use Rattle.words.proofs.Tests.{by-test}
 use Rattle.words.specs.Writes.{applied}
 use Rattle.words.proofs.Laws.{applied-append}
 use Rattle.answer.specs.declared.Refusal.{Refusal}
-use Rattle.answer.specs.declared.Refusal.the-variants.{ShortSlice, BadSize}
+use Rattle.answer.specs.declared.Refusal.the-variants.{ShortSlice, BadSize, SpareBytes}
 use Rattle.walk.specs.declared.Verdict.{Verdict}
 use Rattle.walk.specs.declared.Verdict.the-variants as verdict
 use Rattle.answer.specs.declared.Answer.{Answer}
 use Rattle.answer.specs.declared.Answer.the-variants.{Done, Refused}
 use Rattle.format.specs.Limits.{sizeOk}
 use Rattle.walk.specs.Walk.{Ended}
+use Rattle.read_brun.specs.Brun.{brun}
+use Rattle.read_lc.specs.Lc.{lc}
+use Rattle.read_ss2.specs.Ss2.{ss2}
 use Rattle.chunks.specs.declared.FrameHeader.{FrameHeader}
 use Rattle.chunks.specs.declared.Header.the-variants.{Fault, Chunk}
 use Rattle.chunks.specs.Headers.{headerAt, frameHeader}
 use Rattle.chunks.specs.Spans.{Spans}
 use Rattle.chunks.proofs.Spans.{subs-none, subs-step, subs-by}
-use Rattle.read_frame.specs.Frame.{afterFrameHeader, skipped, ChunkWalk, subChunk, FrameWalk, stop, answerAfter, chunkThen, acted, subChunks, frame}
+use Rattle.read_frame.specs.Frame.{afterFrameHeader, judged, skipped, ChunkWalk, subChunk, FrameWalk, stop, answerAfter, chunkThen, acted, subChunks, frame}
 use Rattle.format.specs.Limits.{area}
 use Rattle.format.specs.declared.Size.{Size}
 use Rattle.state.specs.State.{State, enough}
@@ -29,12 +35,45 @@ use Rattle.state.specs.Outcome.{lentPair, refuse}
 use Rattle.read_frame.specs.Reading.{readBy, readFrame}
 use Rattle.state.specs.State.{enough}
 
+-- what is left behind a body's data
+
+pub judged-spare : (size end : ℕ) → end + 1 < size → judged size (verdict.Ends end) ≡ verdict.Fault SpareBytes
+judged-spare size end h = rw (lt-leb size (end + 1) h)
+
+pub judged-right : (size end : ℕ) → size ≤ end + 1 → judged size (verdict.Ends end) ≡ verdict.Ends end
+judged-right size end h = rw (le-leb size (end + 1) h)
+
+-- a sub-chunk that ends is one whose body does, there
+pub judged-ends : (size : ℕ) (v : Verdict) (end : ℕ) → judged size v ≡ verdict.Ends end → v ≡ verdict.Ends end
+judged-ends size (verdict.Fault e) end q = let z : _≡_ {A = ℕ} 0 1 = cc in absurd (omega arith)
+judged-ends size (verdict.Ends to) end q =
+    by-test (λ t. (cond t (verdict.Ends to) (verdict.Fault SpareBytes)) ≡ verdict.Ends end → verdict.Ends to ≡ verdict.Ends end) (leb size (to + 1)) (λ h k. k)
+    (λ h k. let z : _≡_ {A = ℕ} 0 1 = cc in absurd (omega arith)) q
+
+judged-ended : (size : ℕ) (v : Verdict) → Ended (judged size v) → Ended v
+judged-ended size (verdict.Fault e) i = i
+judged-ended size (verdict.Ends to) i = tt
+
 module _ (z : Size) (kind : ℕ) (b : List ℕ) where
   pub chunk-is : (k : ℕ) → kind ≡ k → subChunk z kind b ≡ subChunk z k b
   chunk-is k e = ap (λ (x : ℕ). subChunk z x b) e
 
-  pub chunk-ended : (k : ℕ) → kind ≡ k → Ended (subChunk z kind b .verdict) → Ended (subChunk z k b .verdict)
+  chunk-ended : (k : ℕ) → kind ≡ k → Ended (subChunk z kind b .verdict) → Ended (subChunk z k b .verdict)
   chunk-ended k e i = subst (λ (c : ChunkWalk). Ended (c .verdict)) (chunk-is k e) i
+
+  -- the walks of kinds whose play asks that they end
+  module _ (i : Ended (subChunk z kind b .verdict)) where
+    pub ss2-ended : kind ≡ 7 → Ended (ss2 (z .width) (z .height) b .verdict)
+    unfolding subChunk
+    ss2-ended e = judged-ended (length b) (ss2 (z .width) (z .height) b .verdict) (chunk-ended 7 e i)
+
+    pub lc-ended : kind ≡ 12 → Ended (lc (z .width) (z .height) b .verdict)
+    unfolding subChunk
+    lc-ended e = judged-ended (length b) (lc (z .width) (z .height) b .verdict) (chunk-ended 12 e i)
+
+    pub brun-ended : kind ≡ 15 → Ended (brun (z .width) (z .height) b .verdict)
+    unfolding subChunk
+    brun-ended e = judged-ended (length b) (brun (z .width) (z .height) b .verdict) (chunk-ended 15 e i)
 
   pub chunk-other : (kind ≡ 4 → ⊥) → (kind ≡ 7 → ⊥) → (kind ≡ 11 → ⊥) → (kind ≡ 12 → ⊥) → (kind ≡ 13 → ⊥) → (kind ≡ 15 → ⊥) → (kind ≡ 16 → ⊥)
       → subChunk z kind b ≡ skipped b

@@ -53,10 +53,10 @@ module _ (z : Size) (wide : 1 ≤ z .width) where
       Ok : ChunkWalk → Type 0
       Ok c = FrameSound z b (c .pixels) (c .colours)
 
-      on-picture : (k : Walk) → Sound b (area z) k → Ok (onPicture k)
+      on-picture : (k : Walk) → Sound b (area z) k → Ok (onPicture (length b) k)
       on-picture k s = record { in-picture = s .inside; in-palette = tt; of-bytes = λ i. (s .bytewise i, tt) }
 
-      on-palette : (k : Walk) → Sound b 768 k → Ok (onPalette k)
+      on-palette : (k : Walk) → Sound b 768 k → Ok (onPalette (length b) k)
       on-palette k s = record { in-picture = tt; in-palette = s .inside; of-bytes = λ i. (tt, s .bytewise i) }
 
   chunks-sound : (b : List ℕ) (n at : ℕ) → FrameSound z b (subChunks z b n at .pixels) (subChunks z b n at .colours)

@@ -3,12 +3,13 @@ use Prim.Native.Nat.{ℕ, _+_}
 use mathlib.Core.List.{List, [], _∷_, _++_}
 use mathlib.Core.Bool.{cond}
 use lib.ListN.{length, take}
-use lib.Dec.{eqb}
-use Rattle.words.specs.Words.{part}
+use lib.Dec.{eqb, leb}
+use Rattle.words.specs.Words.{require_else_then_, part}
 use Rattle.words.specs.Writes.{Write}
 use Rattle.format.specs.Format.{FLI-COLOR256, FLI-SS2, FLI-COLOR, FLI-LC, FLI-BLACK, FLI-BRUN, FLI-COPY}
 use Rattle.walk.specs.declared.Verdict.{Verdict}
 use Rattle.walk.specs.declared.Verdict.the-variants as verdict
+use Rattle.answer.specs.declared.Refusal.the-variants.{SpareBytes}
 use Rattle.answer.specs.declared.Answer.{Answer}
 use Rattle.answer.specs.declared.Answer.the-variants.{Refused}
 use Rattle.walk.specs.Walk.{Walk}
@@ -31,11 +32,18 @@ pub record ChunkWalk : Type 0 where
   pub colours : List Write
   pub verdict : Verdict
 
-abbrev pub onPicture : Walk → ChunkWalk
-onPicture w = record { pixels = w .writes; colours = []; verdict = w .verdict }
+-- "more than one spare byte after the data is refused. Refusals: 19, after all other checks of that sub-chunk" (document 02, Req 05); size: the
+-- body's bytes
+abbrev pub judged : ℕ → Verdict → Verdict
+judged size (verdict.Fault e) = verdict.Fault e
+judged size (verdict.Ends end) = require leb size (end + 1) else verdict.Fault SpareBytes then verdict.Ends end
 
-abbrev pub onPalette : Walk → ChunkWalk
-onPalette w = record { pixels = []; colours = w .writes; verdict = w .verdict }
+-- a walk over a body of so many bytes, on the picture or on the palette
+abbrev pub onPicture : ℕ → Walk → ChunkWalk
+onPicture size w = record { pixels = w .writes; colours = []; verdict = judged size (w .verdict) }
+
+abbrev pub onPalette : ℕ → Walk → ChunkWalk
+onPalette size w = record { pixels = []; colours = w .writes; verdict = judged size (w .verdict) }
 
 -- "Kind 18 (postage stamp), prefix chunks and unknown kinds are stepped over": the whole body is theirs
 abbrev pub skipped : List ℕ → ChunkWalk
@@ -44,13 +52,13 @@ skipped b = record { pixels = []; colours = []; verdict = verdict.Ends (length b
 -- "Reading covers kinds 4, 7, 11, 12, 13, 15 and 16": the sub-chunk of a kind, with body b, in a frame of size z
 unfoldable pub subChunk : Size → ℕ → List ℕ → ChunkWalk
 subChunk z kind b =
-    cond (eqb kind FLI-COLOR256) (onPalette (colour Of256 b))
-    (cond (eqb kind FLI-SS2) (onPicture (ss2 (z .width) (z .height) b))
-    (cond (eqb kind FLI-COLOR) (onPalette (colour Of64 b))
-    (cond (eqb kind FLI-LC) (onPicture (lc (z .width) (z .height) b))
-    (cond (eqb kind FLI-BLACK) (onPicture (black (area z)))
-    (cond (eqb kind FLI-BRUN) (onPicture (brun (z .width) (z .height) b))
-    (cond (eqb kind FLI-COPY) (onPicture (copied (area z) b))
+    cond (eqb kind FLI-COLOR256) (onPalette (length b) (colour Of256 b))
+    (cond (eqb kind FLI-SS2) (onPicture (length b) (ss2 (z .width) (z .height) b))
+    (cond (eqb kind FLI-COLOR) (onPalette (length b) (colour Of64 b))
+    (cond (eqb kind FLI-LC) (onPicture (length b) (lc (z .width) (z .height) b))
+    (cond (eqb kind FLI-BLACK) (onPicture (length b) (black (area z)))
+    (cond (eqb kind FLI-BRUN) (onPicture (length b) (brun (z .width) (z .height) b))
+    (cond (eqb kind FLI-COPY) (onPicture (length b) (copied (area z) b))
     (skipped b)))))))
 
 -- What a frame says: all writes in order, and the answer to it.

@@ -10,26 +10,53 @@ ghost use Rattle.state.specs.State.{state, Exact};
 ghost use Rattle.state.specs.Outcome.{lentPair, leaves};
 ghost use Rattle.walk.specs.Walk.{Ended};
 ghost use Rattle.answer.specs.declared.Answer.the-variants.{Done};
-ghost use Rattle.read_frame.specs.Frame.{subChunk, subChunks, frame};
+ghost use Rattle.read_frame.specs.Frame.{judged, subChunk, subChunks, frame};
 ghost use Rattle.read_frame.specs.Reading.{readFrame};
 use chunks::CHUNK_HEADER;
 use chunks::FRAME_HEADER;
 use format::Size;
+
+// How a sub-chunk comes out whose body, of so many bytes, came out so: more than one spare byte behind the data is a fault.
+fn judge(verdict: walk::Verdict, size: usize) -> walk::Verdict
+    ensures { λ r. ⌜ r ≡ judged size verdict ⌝ }
+{
+    match verdict {
+        walk::Verdict::Fault(e) => walk::Verdict::Fault(e),
+        walk::Verdict::Ends(end) => {
+            if end < size {
+                if end < size - 1 {
+                    return walk::Verdict::Fault(answer::Refusal::SpareBytes);
+                }
+            }
+            walk::Verdict::Ends(end)
+        }
+    }
+}
 
 // How a sub-chunk's body comes out.
 fn check_chunk(kind: usize, body: &[u8], size: Size) -> walk::Verdict
     requires { ⌜ Sized (size .width) (size .height) ⌝ }
     ensures { λ r. ⌜ r ≡ subChunk size kind (now (body .entry)) .verdict ⌝ }
 {
+    let length = body.len();
     match kind {
-        format::FLI_COLOR256 => read_colour::check_colour(body, read_colour::Levels::Of256),
-        format::FLI_SS2 => read_ss2::check_ss2(body, size.width, size.height),
-        format::FLI_COLOR => read_colour::check_colour(body, read_colour::Levels::Of64),
-        format::FLI_LC => read_lc::check_lc(body, size.width, size.height),
-        format::FLI_BLACK => walk::Verdict::Ends(0),
-        format::FLI_BRUN => read_brun::check_brun(body, size.width, size.height),
-        format::FLI_COPY => read_full::check_copy(body, size.width * size.height),
-        _ => walk::Verdict::Ends(body.len()),
+        format::FLI_COLOR256 => judge(
+            read_colour::check_colour(body, read_colour::Levels::Of256),
+            length,
+        ),
+        format::FLI_SS2 => judge(read_ss2::check_ss2(body, size.width, size.height), length),
+        format::FLI_COLOR => judge(
+            read_colour::check_colour(body, read_colour::Levels::Of64),
+            length,
+        ),
+        format::FLI_LC => judge(read_lc::check_lc(body, size.width, size.height), length),
+        format::FLI_BLACK => judge(walk::Verdict::Ends(0), length),
+        format::FLI_BRUN => judge(read_brun::check_brun(body, size.width, size.height), length),
+        format::FLI_COPY => judge(
+            read_full::check_copy(body, size.width * size.height),
+            length,
+        ),
+        _ => walk::Verdict::Ends(length),
     }
 }
 

@@ -1,5 +1,5 @@
 -- `play_chunk` meets its contract: at each kind the definition computes to that kind's walk, which writes on the picture or on the palette.
-use Rattle.read_frame.proofs.Laws.{chunk-is, chunk-ended, chunk-other}
+use Rattle.read_frame.proofs.Laws.{chunk-is, ss2-ended, lc-ended, brun-ended, chunk-other}
 use Rattle.read_frame.specs.Frame.{ChunkWalk, subChunk}
 use Rattle.words.specs.Writes.{applied}
 use Prim.Native.Nat.{ℕ}
@@ -18,22 +18,19 @@ abbrev colours : List ℕ → ChunkWalk → List ℕ
 colours d k = applied (k .colours) d
 
 play-ss2-requires : tie.Need-play-ss2-requires
-unfolding subChunk
 play-ss2-requires c κs =
     let p = c .before .before .before .before .before .pre in
-    (p .0 .picture .size .some-wide, p .0 .picture .size .wide, p .0 .picture .size .high, le-of-eq (sym (p .0 .picture .pixels)), chunk-ended _ _ _ 7 (c .before .match .keys2) (p .1))
+    (p .0 .picture .size .some-wide, p .0 .picture .size .wide, p .0 .picture .size .high, le-of-eq (sym (p .0 .picture .pixels)), ss2-ended _ _ _ (p .1) (c .before .match .keys2))
 
 play-lc-requires : tie.Need-play-lc-requires
-unfolding subChunk
 play-lc-requires c κs =
     let p = c .before .before .before .before .before .pre in
-    (p .0 .picture .size .wide, le-of-eq (sym (p .0 .picture .pixels)), chunk-ended _ _ _ 12 (c .before .match .keys4) (p .1))
+    (p .0 .picture .size .wide, le-of-eq (sym (p .0 .picture .pixels)), lc-ended _ _ _ (p .1) (c .before .match .keys4))
 
 play-brun-requires : tie.Need-play-brun-requires
-unfolding subChunk
 play-brun-requires c κs =
     let p = c .before .before .before .before .before .pre in
-    (le-of-eq (sym (p .0 .picture .pixels)), chunk-ended _ _ _ 15 (c .before .match .keys6) (p .1))
+    (le-of-eq (sym (p .0 .picture .pixels)), brun-ended _ _ _ (p .1) (c .before .match .keys6))
 
 returns : tie.Need-returns
 unfolding subChunk applied
