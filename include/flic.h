@@ -21,7 +21,9 @@ typedef struct {
 } flic_answer;
 
 /* Reads one frame chunk against the picture (width * height bytes, row by row) and the palette
- * (768 bytes, red, green, blue) that show, and changes both in place. Longer slices keep their excess. */
+ * (768 bytes, red, green, blue) that show, and changes both in place. Longer slices keep their excess.
+ * Behind the data of a sub-chunk of kind 4, 7, 11, 12, 13, 15 or 16 one byte may stand, as padding; more are refused
+ * 19, with the sub-chunk's header as the place. Bytes after the last sub-chunk and after the size are ignored. */
 flic_answer flic_read_frame(const uint8_t *bytes, size_t bytes_len,
                             uint64_t width, uint64_t height,
                             uint8_t *picture, size_t picture_len,

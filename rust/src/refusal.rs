@@ -28,13 +28,14 @@ pub enum Refusal {
     BadRing = 16,
     BadTrailer = 17,
     WrongTime = 18,
+    SpareBytes = 19,
 }
 
 use Refusal::*;
 
 impl Refusal {
     /// Every refusal, in the order of the numbers.
-    pub const ALL: [Refusal; 18] = [
+    pub const ALL: [Refusal; 19] = [
         ShortSlice,
         BadSize,
         NoRoom,
@@ -53,6 +54,7 @@ impl Refusal {
         BadRing,
         BadTrailer,
         WrongTime,
+        SpareBytes,
     ];
 
     /// The number by which the C boundary and the papers call it.
@@ -92,6 +94,7 @@ impl Refusal {
             BadRing => "the ring doesn't lead back to frame 1",
             BadTrailer => "what stands behind the reel isn't its trailer",
             WrongTime => "a reel takes 1 to 4,000 frames, and is closed once",
+            SpareBytes => "more than one spare byte stands behind a chunk's data",
         }
     }
 
@@ -111,6 +114,7 @@ impl Refusal {
             BadRing => "a board would show a wrong picture from the second lap on: make the file anew",
             BadTrailer => "write the trailer anew",
             WrongTime => "open a new reel",
+            SpareBytes => "the tool that wrote the file left old bytes in it: make the file anew with another",
         }
     }
 }
@@ -151,11 +155,11 @@ mod tests {
     use super::*;
 
     #[test]
-    fn numbers_run_from_1_to_18_and_lead_back() {
+    fn numbers_run_from_1_to_19_and_lead_back() {
         let numbers: Vec<u32> = Refusal::ALL.iter().map(|refusal| refusal.number()).collect();
-        assert_eq!(numbers, (1..=18).collect::<Vec<u32>>());
+        assert_eq!(numbers, (1..=19).collect::<Vec<u32>>());
         assert!(Refusal::ALL.iter().all(|refusal| Refusal::with_number(refusal.number()) == Some(*refusal)));
-        assert_eq!((Refusal::with_number(0), Refusal::with_number(19)), (None, None));
+        assert_eq!((Refusal::with_number(0), Refusal::with_number(20)), (None, None));
     }
 
     #[test]

@@ -1,7 +1,7 @@
 //! The seeded inputs of the reading and rewriting tests, in families; a family and a seed give the same inputs again.
 
 use crate::damage;
-use crate::frames::{Frame, Maker};
+use crate::frames::{Frame, Maker, KINDS, SPARE};
 use crate::model::PALETTE_BYTES;
 use crate::rng::Rng;
 use crate::runner::calls::ReadCase;
@@ -10,7 +10,7 @@ use crate::sizes::{lengths, long_lengths, right_size, short_lengths, small_size,
 use crate::states::State;
 
 /// The families of one input a batch, then those of many.
-pub const FAMILIES: [Family<ReadCase>; 11] = [
+pub const FAMILIES: [Family<ReadCase>; 12] = [
     Family { name: "valid", batches: 120_000, emit: valid },
     Family { name: "slipped", batches: 150_000, emit: slipped },
     Family { name: "headers", batches: 30_000, emit: headers },
@@ -22,6 +22,7 @@ pub const FAMILIES: [Family<ReadCase>; 11] = [
     Family { name: "truncations", batches: 400, emit: truncations },
     Family { name: "changes", batches: 200, emit: changes },
     Family { name: "all-values", batches: 30, emit: all_values },
+    Family { name: "spare", batches: 500, emit: spare },
 ];
 
 /// How many of the families give one input a batch.
@@ -78,8 +79,11 @@ fn bodies(rng: &mut Rng, sink: &mut dyn FnMut(ReadCase)) {
 fn chance_bodies(rng: &mut Rng, sink: &mut dyn FnMut(ReadCase)) {
     let (width, height) = if rng.once_in(3) { right_size(rng) } else { small_size(rng) };
     let kind = damage::kind_in_turn(rng.draw());
-    let bytes = damage::chance_frame(kind, rng, 60).bytes();
-    sink(case_of_size(rng, bytes, width, height));
+    let mut frame = damage::chance_frame(kind, rng, 60);
+    if rng.once_in(2) {
+        frame.chunks.iter_mut().for_each(|chunk| chunk.trim(width, height, rng.below(2)));
+    }
+    sink(case_of_size(rng, frame.bytes(), width, height));
 }
 
 fn chance_bytes(rng: &mut Rng, sink: &mut dyn FnMut(ReadCase)) {
@@ -130,6 +134,44 @@ fn truncations(rng: &mut Rng, sink: &mut dyn FnMut(ReadCase)) {
     }
     for cut in damage::every_cut_body(&whole) {
         sink(case_of_size(rng, cut, width, height));
+    }
+}
+
+/// A body of each kind, right or with a fault of its own, with none, one, two and many spare bytes behind it: alone, in
+/// front of another sub-chunk that is right, has a fault, is sloppy too or isn't there, and behind a right one.
+pub fn spare_frames(rng: &mut Rng, width: usize, height: usize) -> Vec<Frame> {
+    let mut frames = Vec::new();
+    for kind in KINDS {
+        let slips = rng.pick(&[None, None, Some(4)]);
+        let mut chunk = Maker { rng, width, height, slips }.chunk(kind);
+        chunk.trim(width, height, 0);
+        let other = rng.pick(&KINDS);
+        let right = Maker { rng, width, height, slips: None }.chunk(other);
+        let slips = rng.pick(&[None, Some(3)]);
+        let next = Maker { rng, width, height, slips }.chunk(other);
+        for spare in SPARE {
+            let mut first = chunk.clone();
+            first.body.extend(rng.bytes(spare));
+            let mut second = next.clone();
+            if rng.once_in(4) {
+                second.body.extend(rng.bytes(2));
+            }
+            let orders = [vec![first.clone()], vec![first.clone(), second], vec![right.clone(), first]];
+            frames.extend(orders.map(|chunks| Frame { chunks, ..Frame::default() }));
+        }
+    }
+    frames
+}
+
+fn spare(rng: &mut Rng, sink: &mut dyn FnMut(ReadCase)) {
+    let (width, height) = small_size(rng);
+    for frame in spare_frames(rng, width, height) {
+        let mut bytes = frame.bytes();
+        if rng.once_in(8) {
+            let count = frame.chunks.len() as u16 + 1;
+            damage::set_word(&mut bytes, 6, count);
+        }
+        sink(case_of_size(rng, bytes, width, height));
     }
 }
 

@@ -1,6 +1,7 @@
 //! Builds frames: valid sub-chunks of every kind with all their freedoms, or with a slip past a limit.
 
-use crate::model::{kind, CHUNK_HEADER, FRAME_HEADER, FRAME_TYPE, PREFIX_TYPE};
+use crate::model::decode::{has_data, Data, Frames, Screen};
+use crate::model::{kind, Document, CHUNK_HEADER, FRAME_HEADER, FRAME_TYPE, PALETTE_BYTES, PREFIX_TYPE};
 use crate::rng::Rng;
 
 /// The kinds that a frame may hold, an unknown one (0) among them.
@@ -16,11 +17,34 @@ pub fn is_known(kind: u16) -> bool {
     KINDS.contains(&kind) && kind != UNKNOWN
 }
 
+/// How many bytes are tried behind a body's data, of which two and more are refused in a kind that is read.
+pub const SPARE: [usize; 9] = [0, 1, 2, 2, 3, 9, 40, 256, 257];
+
 /// A sub-chunk before its header is written.
 #[derive(Clone)]
 pub struct Chunk {
     pub kind: u16,
     pub body: Vec<u8>,
+}
+
+impl Chunk {
+    /// How many bytes of the body are data, if it has no fault of its own; all of a kind that is stepped over.
+    pub fn data_length(&self, width: usize, height: usize) -> Option<usize> {
+        if !has_data(self.kind) {
+            return Some(self.body.len());
+        }
+        let (picture, palette) = (vec![0; width * height], vec![0; PALETTE_BYTES]);
+        let mut data = Data { rest: &self.body };
+        Document.act(self.kind, &mut data, &mut Screen { width, height, picture, palette }).ok()?;
+        Some(self.body.len() - data.rest.len())
+    }
+
+    /// Leaves so many of the bytes behind the data, where there are more.
+    pub fn trim(&mut self, width: usize, height: usize, spare: usize) {
+        if let Some(length) = self.data_length(width, height) {
+            self.body.truncate(length + spare);
+        }
+    }
 }
 
 /// A whole frame before it is written.
@@ -109,10 +133,20 @@ impl Maker<'_> {
             kind::COPY => self.rng.bytes(self.width * self.height),
             _ => self.stepped_over(),
         };
-        body.extend(self.spare_bytes());
+        body.extend(if has_data(kind) { self.pad() } else { self.spare_bytes() });
         self.cut_by_slip(&mut body);
         let kind = if kind == UNKNOWN { self.unknown_kind() } else { kind };
         Chunk { kind, body }
+    }
+
+    /// The spare byte that may stand behind a body's data, or none; a slip gives more.
+    fn pad(&mut self) -> Vec<u8> {
+        let length = match self.rng.below(8) {
+            _ if self.slip() => self.rng.pick(&SPARE[2..]),
+            0 | 1 => 1,
+            _ => 0,
+        };
+        self.rng.bytes(length)
     }
 
     /// Bytes that a reader ignores; seldom any.
@@ -395,13 +429,13 @@ mod tests {
 
     #[test]
     fn slips_reach_every_refusal_of_a_body() {
-        let mut met = [0; 14];
+        let mut met = [0; 20];
         for seed in 0..4000 {
             let mut rng = Rng::new(seed);
             let (width, height) = right_size(&mut rng);
             let frame = Maker { rng: &mut rng, width, height, slips: Some(12) }.frame();
             met[answer(&frame, width, height) as usize] += 1;
         }
-        assert!(met[7..].iter().all(|times| *times > 0), "met {met:?}");
+        assert!(met[7..14].iter().chain(&met[19..]).all(|times| *times > 0), "met {met:?}");
     }
 }

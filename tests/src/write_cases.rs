@@ -23,12 +23,13 @@ pub const WRITE_FAMILIES: [Family<WriteCase>; 6] = [
 /// How many of the writing families give one input a batch.
 pub const SINGLE_WRITES: usize = 5;
 
-pub const REWRITE_FAMILIES: [Family<RewriteCase>; 5] = [
+pub const REWRITE_FAMILIES: [Family<RewriteCase>; 6] = [
     Family { name: "rewrite-valid", batches: 12_000, emit: rewrite_valid },
     Family { name: "rewrite-damaged", batches: 40_000, emit: rewrite_damaged },
     Family { name: "rewrite-lent", batches: 6_000, emit: rewrite_lent },
     Family { name: "rewrite-rooms", batches: 200, emit: rewrite_rooms },
     Family { name: "rewrite-changes", batches: 60, emit: rewrite_changes },
+    Family { name: "rewrite-spare", batches: 60, emit: rewrite_spare },
 ];
 
 /// How many of the rewriting families give one input a batch.
@@ -210,6 +211,12 @@ fn rewrite_damaged(rng: &mut Rng, sink: &mut dyn FnMut(RewriteCase)) {
 /// Truncated and changed frames, of those families that give many.
 fn rewrite_changes(rng: &mut Rng, sink: &mut dyn FnMut(RewriteCase)) {
     let family = &FAMILIES[rng.between(SINGLE, SINGLE + 1)];
+    frames_of(rng, family, &mut |rng, case| rewrite_of(rng, case, sink));
+}
+
+/// Spare bytes behind bodies of every kind, which is the last of the reading families.
+fn rewrite_spare(rng: &mut Rng, sink: &mut dyn FnMut(RewriteCase)) {
+    let family = &FAMILIES[FAMILIES.len() - 1];
     frames_of(rng, family, &mut |rng, case| rewrite_of(rng, case, sink));
 }
 

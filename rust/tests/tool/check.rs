@@ -62,6 +62,28 @@ fn a_ring_written_from_frame_1_to_itself_is_found() {
 }
 
 #[test]
+fn old_bytes_behind_a_chunk_are_found_and_a_byte_of_padding_is_not() {
+    let bench = Bench::with_reel(&pictures(3));
+    let right = bench.read("reel.flc");
+    let ring = CheckedReel::new(&right).unwrap().frame_chunks()[3].offset;
+    let size_at = |at: usize| u32::from_le_bytes(right[at..at + 4].try_into().unwrap());
+    let last = (1..right[ring + 6]).fold(ring + 16, |at, _| at + size_at(at) as usize);
+    let with_spare = |spare: u32| {
+        let mut bytes = right.clone();
+        for at in [0, ring, last] {
+            bytes[at..at + 4].copy_from_slice(&(size_at(at) + spare).to_le_bytes());
+        }
+        bytes.resize(bytes.len() + spare as usize, 7);
+        bytes
+    };
+    bench.write("reel.flc", &with_spare(1));
+    assert_eq!(bench.done(&["check", "reel.flc"]), "reel.flc: ok\n");
+    let line = refusal(&bench, &with_spare(2));
+    let start = format!("reel.flc: refused 19 at offset {last}, in the ring: more than one spare byte stands");
+    assert!(line.starts_with(&start) && line.contains("make the file anew"), "{line}");
+}
+
+#[test]
 fn what_stands_behind_the_reel_is_checked() {
     let bench = Bench::with_reel(&pictures(1));
     let mut bytes = bench.read("reel.flc");

@@ -3,8 +3,8 @@
 use flic_tests::runner::calls::ROWS;
 use std::collections::{BTreeMap, BTreeSet};
 
-/// How many refusals document 01's table has.
-const REFUSALS: usize = 18;
+/// How many refusals document 01's table and document 02 have.
+const REFUSALS: usize = 19;
 
 #[derive(Default)]
 pub struct Met {

@@ -9,6 +9,12 @@ use flic_boundary::PairMut;
 const COLOURS: usize = PALETTE_BYTES / 3;
 const MOST_LEVEL: u8 = 63;
 
+/// Whether a body of this kind is read; of others any bytes are stepped over.
+pub fn has_data(kind: u16) -> bool {
+    use kind::*;
+    [COLOR256, SS2, COLOR, LC, BLACK, BRUN, COPY].contains(&kind)
+}
+
 impl Frames for Document {}
 
 pub trait Frames {
@@ -35,7 +41,7 @@ pub trait Frames {
         for _ in 0..header.count {
             let chunk = self.sub_chunk(&bytes[..header.end], place)?;
             let data = &mut Data { rest: &bytes[place + CHUNK_HEADER..place + chunk.size] };
-            self.act(chunk.kind, data, screen).map_err(|number| self.fault(number, place))?;
+            self.judged(chunk.kind, data, screen).map_err(|number| self.fault(number, place))?;
             place += chunk.size;
         }
         Ok(())
@@ -67,8 +73,22 @@ pub trait Frames {
         Refusal::new(number, place)
     }
 
-    /// "Reading covers kinds 4, 7, 11, 12, 13, 15 and 16. Kind 18 .. and unknown kinds are stepped over." From here on
-    /// the error is a refusal's number.
+    /// What a sub-chunk does, and then its spare bytes: 19 comes "after all other checks of that sub-chunk and before the
+    /// next one" (document 02, Req 05). From here on the error is a refusal's number.
+    fn judged(&self, kind: u16, data: &mut Data, screen: &mut Screen) -> Result<(), u32> {
+        self.act(kind, data, screen)?;
+        self.spare(kind, data.rest.len())
+    }
+
+    /// "In kinds 4, 7, 11, 12, 13, 15 and 16 more than one spare byte after the data is refused" (document 02, Req 05).
+    fn spare(&self, kind: u16, spare: usize) -> Result<(), u32> {
+        if has_data(kind) && spare > 1 {
+            return Err(number::SPARE_BYTES);
+        }
+        Ok(())
+    }
+
+    /// "Reading covers kinds 4, 7, 11, 12, 13, 15 and 16. Kind 18 .. and unknown kinds are stepped over."
     fn act(&self, kind: u16, data: &mut Data, screen: &mut Screen) -> Result<(), u32> {
         match kind {
             kind::COLOR256 | kind::COLOR => self.colour(kind, data, screen),
@@ -553,6 +573,58 @@ mod tests {
     fn ss2_packets_act_after_the_last_pixel() {
         assert_eq!(row_of(kind::SS2, &[1, 0, 9, 0xBF, 1, 0, 1, 0xFF, 1, 2], 3), [FILL, 1, 2]);
         assert_eq!(row_of(kind::SS2, &[1, 0, 9, 0x80, 0, 0], 4), [FILL, FILL, FILL, 9]);
+    }
+
+    /// A body of each kind that is read, with nothing behind its data, for a picture of 2 by 1.
+    const BODIES: [(u16, &[u8]); 7] = [
+        (kind::COLOR256, &[1, 0, 3, 1, 7, 8, 9]),
+        (kind::SS2, &[1, 0, 1, 0, 0, 1, 4, 5]),
+        (kind::COLOR, &[1, 0, 3, 1, 7, 8, 9]),
+        (kind::LC, &[0, 0, 1, 0, 1, 0, 0xFE, 4]),
+        (kind::BLACK, &[]),
+        (kind::BRUN, &[0, 2, 9]),
+        (kind::COPY, &[1, 2]),
+    ];
+
+    #[test]
+    fn one_spare_byte_is_ignored_and_two_are_19() {
+        for (kind, body) in BODIES {
+            let with = |spare: usize| [body, &vec![0xAB; spare]].concat();
+            let [none, one] = [0, 1].map(|spare| read_body(kind, &with(spare), 2, 1));
+            assert_eq!((one.answer, &one.picture, &one.palette), (none.answer, &none.picture, &none.palette));
+            assert_eq!(none.answer, Ok(()), "kind {kind}");
+            for spare in [2, 3, 255, 256, 1000] {
+                assert_eq!(number_of(kind, &with(spare), 2, 1), 19, "kind {kind}, {spare} spare bytes");
+            }
+        }
+        for spare in [0, 1, 2, 1000] {
+            assert_eq!(number_of(kind::PSTAMP, &vec![0; spare], 2, 1), 0);
+            assert_eq!(number_of(14, &vec![0; spare], 2, 1), 0);
+        }
+    }
+
+    #[test]
+    fn spare_bytes_come_after_the_body_and_before_the_next() {
+        assert_eq!(number_of(kind::COLOR, &[1, 0, 0, 1, 64, 0, 0, 9, 9, 9], 1, 1), 13);
+        assert_eq!(number_of(kind::COLOR256, &[1, 0, 255, 2, 9, 9, 9, 9, 9, 9, 9, 9], 1, 1), 12);
+        assert_eq!(number_of(kind::LC, &[2, 0, 0, 0, 9, 9, 9], 2, 1), 10);
+        assert_eq!(number_of(kind::BRUN, &[1, 0, 9, 9, 9], 2, 1), 8);
+        assert_eq!(number_of(kind::BRUN, &[1, 3, 9, 9, 9], 2, 1), 9);
+        assert_eq!(number_of(kind::SS2, &[1, 0, 0, 0x40, 9, 9, 9], 2, 1), 11);
+        let sloppy = |spare: usize| Chunk { kind: kind::BLACK, body: vec![9; spare] };
+        let faulty = Chunk { kind: kind::BRUN, body: vec![1, 0] };
+        let answer = |chunks: &[Chunk]| read(&frame_of(chunks), 2, 1).answer.map_err(|r| (r.number, r.place));
+        assert_eq!(answer(&[sloppy(2), faulty.clone()]), Err((19, 16)));
+        assert_eq!(answer(&[sloppy(1), faulty.clone()]), Err((8, 23)));
+        assert_eq!(answer(&[faulty, sloppy(2)]), Err((8, 16)));
+        assert_eq!(answer(&[sloppy(1), sloppy(0), sloppy(2)]), Err((19, 29)));
+        let mut cut = frame_of(&[sloppy(2)]);
+        cut[6] = 2;
+        assert_eq!(read(&cut, 2, 1).answer.map_err(|r| (r.number, r.place)), Err((19, 16)));
+        let mut loose = frame_of(&[sloppy(1)]);
+        loose[0] += 9;
+        loose.extend([7; 20]);
+        assert_eq!(read(&loose, 2, 1).answer, Ok(()));
     }
 
     #[test]

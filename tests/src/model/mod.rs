@@ -193,7 +193,7 @@ pub mod kind {
     pub const PSTAMP: u16 = 18;
 }
 
-/// The refusal numbers of frames, reels and trailers, by document 01's table.
+/// The refusal numbers of frames, reels and trailers, by document 01's table and document 02.
 pub mod number {
     pub const SHORT_SLICE: u32 = 1;
     pub const BAD_SIZE: u32 = 2;
@@ -213,6 +213,7 @@ pub mod number {
     pub const RING_ASTRAY: u32 = 16;
     pub const WRONG_TRAILER: u32 = 17;
     pub const CLOSED_OR_FULL: u32 = 18;
+    pub const SPARE_BYTES: u32 = 19;
 }
 
 /// A refusal: its number, and the offset of the chunk at fault.

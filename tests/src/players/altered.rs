@@ -1,6 +1,7 @@
 //! Families of bytes that were altered between the start and a tick: changed, cut, damaged, or lengthened.
 
 use super::make::{due, lively, Whole};
+use crate::cases::spare_frames;
 use crate::damage::{changed_values, set_size, set_word};
 use crate::model::{kind, FILE_HEADER, FRAME_TYPE, PREFIX_TYPE};
 use crate::reels::chunks::wrong_frame;
@@ -61,6 +62,16 @@ pub fn damaged(rng: &mut Rng, sink: Sink) {
     }
     let bytes = put(rng, &whole, &player, &chunks);
     sink(Case::Tick(whole.tick_of(rng, player, bytes, due(&player))));
+}
+
+/// Frames with spare bytes behind bodies of every kind, where the next one is looked for.
+pub fn spare(rng: &mut Rng, sink: Sink) {
+    let whole = lively(rng);
+    let player = whole.any_standing(rng);
+    for frame in spare_frames(rng, whole.header.width, whole.header.height) {
+        let bytes = put(rng, &whole, &player, &frame.bytes());
+        sink(Case::Tick(whole.tick_of(rng, player, bytes, due(&player))));
+    }
 }
 
 /// 0 to 20 bytes where the next chunk should begin, of a frame and of others, with every size around the limits.

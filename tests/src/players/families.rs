@@ -4,7 +4,7 @@ use super::{altered, edges, live, records, replays, starts};
 use crate::runner::inputs::{Case, Family};
 
 /// The families that the self-check goes through, then those of large reels.
-pub const FAMILIES: [Family<Case>; 25] = [
+pub const FAMILIES: [Family<Case>; 27] = [
     Family { name: "ticked", batches: 4_000, emit: live::ticked },
     Family { name: "clocks", batches: 30, emit: edges::clocks },
     Family { name: "records", batches: 300, emit: records::records },
@@ -13,6 +13,7 @@ pub const FAMILIES: [Family<Case>; 25] = [
     Family { name: "changed-bytes", batches: 40, emit: altered::changed_bytes },
     Family { name: "cuts", batches: 60, emit: altered::cuts },
     Family { name: "damaged", batches: 60_000, emit: altered::damaged },
+    Family { name: "spare", batches: 60, emit: altered::spare },
     Family { name: "left-over", batches: 20, emit: altered::left_over },
     Family { name: "behind", batches: 1_000, emit: altered::behind },
     Family { name: "replays", batches: 20_000, emit: replays::replays },
@@ -25,6 +26,7 @@ pub const FAMILIES: [Family<Case>; 25] = [
     Family { name: "start-chunk-sizes", batches: 100, emit: starts::chunk_sizes },
     Family { name: "start-left-over", batches: 8, emit: starts::left_over },
     Family { name: "start-damaged", batches: 15_000, emit: starts::damaged },
+    Family { name: "start-spare", batches: 20, emit: starts::spare },
     Family { name: "start-chance", batches: 1_000, emit: starts::chance },
     Family { name: "start-rings", batches: 1_000, emit: starts::rings },
     Family { name: "start-slices", batches: 60, emit: starts::slices },
@@ -33,7 +35,7 @@ pub const FAMILIES: [Family<Case>; 25] = [
 ];
 
 /// How many of the families are of small reels.
-pub const SMALL: usize = 23;
+pub const SMALL: usize = 25;
 
 #[cfg(test)]
 mod tests {

@@ -46,6 +46,10 @@ pub fn damaged(rng: &mut Rng, sink: Sink) {
     started(rng, chunks::damaged, sink);
 }
 
+pub fn spare(rng: &mut Rng, sink: Sink) {
+    started(rng, chunks::spare, sink);
+}
+
 pub fn chance(rng: &mut Rng, sink: Sink) {
     started(rng, chunks::chance, sink);
 }

@@ -2,6 +2,7 @@
 
 use super::loose_reel::{any_frame, chunk_of, other_chunk, Loose};
 use super::make::{check_of, close_of};
+use crate::cases::spare_frames;
 use crate::damage::{self, set_size, set_word, wrong_size_field};
 use crate::model::{field, kind, FILE_HEADER, FRAME_TYPE, PREFIX_TYPE};
 use crate::rng::Rng;
@@ -104,6 +105,21 @@ pub fn damaged(rng: &mut Rng, sink: Sink) {
     let room = rng.pick(&[0, 16, ample_room(width * height)]);
     let bytes = [loose.open_bytes(), rng.bytes(room)].concat();
     sink(close_of(rng, loose.record(), bytes));
+}
+
+/// Spare bytes behind bodies of every kind, in one of the frames or in the ring: checked, and closed.
+pub fn spare(rng: &mut Rng, sink: Sink) {
+    let whole = Loose::small(rng);
+    for frame in spare_frames(rng, whole.width, whole.height) {
+        let mut loose = whole.clone();
+        let which = rng.below(loose.chunks.len());
+        loose.chunks[which] = frame.bytes();
+        sink(check_of(rng, loose.bytes()));
+        loose.frames += 1;
+        let room = rng.pick(&[0, ample_room(loose.width * loose.height)]);
+        let bytes = [loose.open_bytes(), rng.bytes(room)].concat();
+        sink(close_of(rng, loose.record(), bytes));
+    }
 }
 
 /// Bytes of chance after a right header, checked and closed.

@@ -4,7 +4,7 @@ use super::{altered, built, chunks, headers, lent, records, rings};
 use crate::runner::inputs::{Case, Family};
 
 /// The families that the self-check goes through, then those of large reels.
-pub const FAMILIES: [Family<Case>; 20] = [
+pub const FAMILIES: [Family<Case>; 21] = [
     Family { name: "built", batches: 900, emit: built::built },
     Family { name: "showing", batches: 500, emit: built::showing },
     Family { name: "opens", batches: 40, emit: headers::opens },
@@ -16,6 +16,7 @@ pub const FAMILIES: [Family<Case>; 20] = [
     Family { name: "left-over", batches: 12, emit: chunks::left_over },
     Family { name: "damaged", batches: 30_000, emit: chunks::damaged },
     Family { name: "chance", batches: 3_000, emit: chunks::chance },
+    Family { name: "spare", batches: 60, emit: chunks::spare },
     Family { name: "rings", batches: 3_000, emit: rings::rings },
     Family { name: "records", batches: 60, emit: records::records },
     Family { name: "record-faults", batches: 600, emit: records::record_faults },
@@ -28,7 +29,7 @@ pub const FAMILIES: [Family<Case>; 20] = [
 ];
 
 /// How many of the families are of small reels.
-pub const SMALL: usize = 18;
+pub const SMALL: usize = 19;
 
 #[cfg(test)]
 mod tests {

@@ -120,7 +120,7 @@ impl ReadCase {
         name: "reading",
         unit: "frames",
         lends: &["frame", "picture", "palette"],
-        numbers: &[0, 1, 2, 4, 5, 6, 7, 8, 9, 10, 11, 12, 13],
+        numbers: &[0, 1, 2, 4, 5, 6, 7, 8, 9, 10, 11, 12, 13, 19],
         kinds: &KINDS,
         verb: "accepted",
         ..PLAIN
@@ -204,7 +204,7 @@ impl RewriteCase {
         name: "rewriting",
         unit: "frames",
         lends: &["frame", "previous picture", "previous palette", "working picture", "working palette", "output"],
-        numbers: &[0, 1, 2, 3, 4, 5, 6, 7, 8, 9, 10, 11, 12, 13],
+        numbers: &[0, 1, 2, 3, 4, 5, 6, 7, 8, 9, 10, 11, 12, 13, 19],
         kinds: &KINDS,
         verb: "rewritten",
         ..PLAIN
@@ -240,7 +240,7 @@ impl Call for RewriteCase {
 const REEL_AND_PAIRS: &[&str] = &["reel", "first picture", "first palette", "second picture", "second palette"];
 
 /// What a whole-reel check can answer.
-const OF_A_CHECK: &[u32] = &[0, 1, 2, 4, 5, 6, 7, 8, 9, 10, 11, 12, 13, 14, 15, 16];
+const OF_A_CHECK: &[u32] = &[0, 1, 2, 4, 5, 6, 7, 8, 9, 10, 11, 12, 13, 14, 15, 16, 19];
 
 /// flic_check_reel.
 #[derive(Clone, Debug, PartialEq, Eq)]
@@ -348,7 +348,7 @@ impl CloseCase {
         name: "close",
         unit: "reels",
         lends: REEL_AND_PAIRS,
-        numbers: &[0, 1, 2, 3, 4, 5, 6, 7, 8, 9, 10, 11, 12, 13, 18],
+        numbers: &[0, 1, 2, 3, 4, 5, 6, 7, 8, 9, 10, 11, 12, 13, 18, 19],
         ..PLAIN
     };
 }
@@ -577,7 +577,7 @@ impl TickCase {
         unit: "ticks",
         lends: &["player", "reel", "picture", "palette"],
         aligned: &[align_of::<Player>()],
-        numbers: &[0, 1, 2, 4, 6, 7, 8, 9, 10, 11, 12, 13, 15],
+        numbers: &[0, 1, 2, 4, 6, 7, 8, 9, 10, 11, 12, 13, 15, 19],
         ..PLAIN
     };
 }

@@ -131,6 +131,34 @@ fn of_animator() -> Vec<Example> {
     ]
 }
 
+/// Bytes behind a body's data (document 02, Req 05): one is ignored, two are refused 19; of kind 18 all are stepped over.
+fn of_spare_bytes() -> Vec<Example> {
+    let black = |name, spare: &[u8], picture: &[u8]| body_gives(name, kind::BLACK, spare, picture);
+    let of = |kind, body: &[u8]| Chunk { kind, body: body.to_vec() };
+    let two = |name, first, second| read_gives(name, frame_of(&[first, second]), 2, &[FILL; 2]);
+    let (sloppy, faulty) = (of(kind::COPY, &[1, 2, 3, 4]), of(kind::BRUN, &[1, 0]));
+    let mut frame_with_more = frame_of(&[of(kind::COPY, &[1, 2, 3])]);
+    frame_with_more[0] += 4;
+    frame_with_more.extend([9; 8]);
+    vec![
+        black("BLACK with no body", &[], &[0, 0]),
+        black("BLACK with a body of one byte", &[9], &[0, 0]),
+        black("BLACK with a body of two bytes", &[9, 9], &[FILL; 2]).refused(19, 16),
+        body_gives("COPY and a byte of padding", kind::COPY, &[1, 2, 9], &[1, 2]),
+        body_gives("COPY and two bytes", kind::COPY, &[1, 2, 9, 9], &[FILL; 2]).refused(19, 16),
+        body_gives("an Animator delta, padded", kind::LC, &[0, 0, 1, 0, 1, 0, 1, 9, 0], &[9, FILL]),
+        body_gives("an Animator delta and two bytes", kind::LC, &[0, 0, 1, 0, 1, 0, 1, 9, 0, 0], &[FILL; 2])
+            .refused(19, 16),
+        body_gives("SS2 of no line and two bytes", kind::SS2, &[0, 0, 1, 0], &[FILL]).refused(19, 16),
+        body_gives("colours of no packet and two bytes", kind::COLOR, &[0, 0, 1, 0], &[FILL]).refused(19, 16),
+        body_gives("BRUN's own fault before its spare bytes", kind::BRUN, &[1, 0, 9, 9, 9], &[FILL; 2]).refused(8, 16),
+        body_gives("a postage stamp of three bytes", kind::PSTAMP, &[1, 2, 3], &[FILL]),
+        two("spare bytes before the next sub-chunk's fault", sloppy.clone(), faulty.clone()).refused(19, 16),
+        two("spare bytes after a sub-chunk's fault", faulty, sloppy).refused(8, 16),
+        read_gives("bytes after the last sub-chunk and after the size", frame_with_more, 2, &[1, 2]),
+    ]
+}
+
 pub fn of_reading() -> Vec<Example> {
     let mut columns_10_and_11 = [FILL; 100];
     columns_10_and_11[10..12].fill(0);
@@ -155,6 +183,7 @@ pub fn of_reading() -> Vec<Example> {
         body_gives("row skip FF FF, height 1", kind::SS2, &[1, 0, 0xFF, 0xFF, 0, 0], &[FILL]).refused(10, 16),
     ];
     all.extend(of_animator());
+    all.extend(of_spare_bytes());
     all
 }
 
@@ -195,6 +224,18 @@ fn animator_rewritten() -> Example {
     Example::done("Animator: a delta, rewritten", case, Rest::Length(house.len() as u64), &[(3, next), (5, left)])
 }
 
+/// A frame of 2 by 1 with so many bytes behind the pixels of a COPY, rewritten from blank.
+fn padded_rewritten(name: &'static str, spare: usize) -> Example {
+    let frame = |spare: usize| frame_of(&[Chunk { kind: kind::COPY, body: [&[1, 2][..], &vec![9; spare]].concat() }]);
+    let (house, out, blank) = (frame(0), vec![0xEE; 100], State::blank(2));
+    let left = [&house[..], &out[house.len()..]].concat();
+    let case = RewriteCase { bytes: frame(spare), width: 2, height: 1, previous: blank.clone(), work: blank, out };
+    if spare > 1 {
+        return Example::done(name, case, Rest::Length(0), &[]).refused(19, 16);
+    }
+    Example::done(name, case, Rest::Length(house.len() as u64), &[(3, vec![1, 2]), (5, left)])
+}
+
 /// Rows that BRUN packs best, coming after a picture of which no pixel stays.
 fn rows_give(name: &'static str, rows: &[&[u8]], brun_body: &[u8]) -> Example {
     let next = rows.concat();
@@ -227,6 +268,8 @@ pub fn of_writing() -> Vec<Example> {
         ),
         levels_rewritten(),
         animator_rewritten(),
+        padded_rewritten("a byte of padding, rewritten", 1),
+        padded_rewritten("two spare bytes, rewritten", 2),
     ]
 }
 
@@ -260,6 +303,34 @@ fn ring_of_animator() -> Example {
     Example::done("Animator: a ring that leads back", case, Rest::Nothing, &[(1, vec![5]), (3, vec![5])])
 }
 
+/// A check of a reel of 1 by 1, pixel 5 twice, with so many bytes behind the ring's COPY.
+fn padded_ring(name: &'static str, spare: usize) -> Example {
+    let pixel = |spare: usize| frame_of(&[Chunk { kind: kind::COPY, body: [&[5][..], &vec![9; spare]].concat() }]);
+    let mut bytes = [&blank_reel()[..128], &pixel(1), &pixel(spare)].concat();
+    let size = bytes.len() as u32;
+    bytes[..4].copy_from_slice(&size.to_le_bytes());
+    let case = CheckCase { bytes, first: State::blank(1), second: State::blank(1) };
+    let example = Example::done(name, case, Rest::Nothing, &[(1, vec![5]), (3, vec![5])]);
+    match spare {
+        0 | 1 => example,
+        _ => example.refused(19, 128 + 24 + 16),
+    }
+}
+
+/// A close of a reel of 1 by 1 whose one frame has two bytes behind its COPY: both pairs are left blank.
+fn sloppy_close() -> Example {
+    let mut open = blank_reel()[..128].to_vec();
+    (0..128).filter(|at| zero_until_close(*at)).for_each(|at| open[at] = 0);
+    let frame = frame_of(&[Chunk { kind: kind::COPY, body: vec![5, 9, 9] }]);
+    let bytes = [&open[..], &frame, &[0xEE; 100]].concat();
+    let reel = Reel { width: 1, height: 1, frames: 1, end: 128 + frame.len() as u64, closed: 0 };
+    let work = State { picture: vec![FILL], palette: vec![FILL; PALETTE_BYTES] };
+    let case = CloseCase { reel, bytes, first: work.clone(), second: work };
+    let blank = State::blank(1);
+    let left = [(1, blank.picture.clone()), (2, blank.palette.clone()), (3, blank.picture), (4, blank.palette)];
+    Example::done("two spare bytes, closed", case, Rest::Record(reel), &left).refused(19, 128 + 16)
+}
+
 /// The blank reel of 1 by 1: opened, added to, closed and checked.
 pub fn of_reels() -> Vec<Example> {
     let whole = blank_reel();
@@ -282,6 +353,9 @@ pub fn of_reels() -> Vec<Example> {
         ring_of_levels("a ring of levels that leads back", [255, 125, 130], [63, 31, 32]),
         ring_of_levels("a ring of levels times 4", [252, 124, 128], [63, 31, 32]),
         ring_of_animator(),
+        padded_ring("a ring with a byte of padding", 1),
+        padded_ring("a ring with two spare bytes", 2),
+        sloppy_close(),
     ]
 }
 

@@ -2,7 +2,7 @@
 
 use super::{readings, rules};
 use crate::model::decode::{Data, FrameHeader, Frames, Line, Packet, RowStart, Screen, Ss2Word};
-use crate::model::{kind, long_enough, number, size_at, Document, Refusal, FRAME_HEADER};
+use crate::model::{kind, long_enough, number, size_at, Document, Refusal, CHUNK_HEADER, FRAME_HEADER};
 use flic_boundary::PairMut;
 use std::ops::Range;
 
@@ -32,9 +32,20 @@ rules! { Frames;
     OtherFault: fault(number: u32, place: usize) -> Refusal;
     OtherBlack: black(screen: &mut Screen) -> Result<(), u32>;
     OtherFrameHeader: frame_header(bytes: &[u8]) -> Result<FrameHeader, Refusal>;
+    OtherJudged: judged(kind: u16, data: &mut Data, screen: &mut Screen) -> Result<(), u32>;
+    OtherSpare: spare(kind: u16, spare: usize) -> Result<(), u32>;
     OtherAct: act(kind: u16, data: &mut Data, screen: &mut Screen) -> Result<(), u32>;
     OtherDeltaType: delta_type(signed: i8) -> Result<Packet, u32>;
     OtherLastPixel: last_pixel(screen: &mut Screen, row: usize, pixel: u8) -> ();
+}
+
+/// Reads on over spare bytes.
+struct Unjudged;
+
+impl Frames for Unjudged {
+    fn spare(&self, _kind: u16, _spare: usize) -> Result<(), u32> {
+        Ok(())
+    }
 }
 
 readings! { ALL: Frames;
@@ -125,6 +136,43 @@ readings! { ALL: Frames;
     LcFromTheCount = OtherLcStart(|data| Document.lc_start(data).map(|row| RowStart { x: row.packets as usize, ..row }));
     LcFromColumn1 = OtherLcStart(|data| Document.lc_start(data).map(|row| RowStart { x: 1, ..row }));
     LcRowStartLeftOut = OtherLcStart(|data| Ok(Document.lc_start(data).unwrap_or(RowStart { x: 0, packets: 0 })));
+    SpareBytesKept = OtherSpare(|_, _| Ok(()));
+    TwoSpareBytesKept = OtherSpare(|kind, spare| Document.spare(kind, spare.max(1) - 1));
+    OneSpareByteRefused = OtherSpare(|kind, spare| Document.spare(kind, 2 * spare));
+    SpareBytesOfOneByte = OtherSpare(|kind, spare| Document.spare(kind, spare & 0xFF));
+    SpareOfColoursKept = OtherSpare(|kind, spare| match kind {
+        kind::COLOR256 | kind::COLOR => Ok(()),
+        _ => Document.spare(kind, spare),
+    });
+    SpareOfBlackKept = OtherSpare(|kind, spare| match kind {
+        kind::BLACK => Ok(()),
+        _ => Document.spare(kind, spare),
+    });
+    SpareOfCopyKept = OtherSpare(|kind, spare| match kind {
+        kind::COPY => Ok(()),
+        _ => Document.spare(kind, spare),
+    });
+    SpareOfStampsRefused = OtherSpare(|kind, spare| match kind {
+        kind::PSTAMP => Document.spare(kind::BLACK, spare),
+        _ => Document.spare(kind, spare),
+    });
+    SpareOfUnknownRefused = OtherSpare(|kind, spare| match kind {
+        kind::PSTAMP => Ok(()),
+        _ => Document.spare(kind::BLACK, spare),
+    });
+    SpareBeforeOwnFaults = OtherJudged(|kind, data, screen| {
+        let acted = Document.act(kind, data, screen);
+        Document.spare(kind, data.rest.len())?;
+        acted
+    });
+    SpareAtFrameEnd = OtherPlay(|bytes, screen| {
+        Unjudged.play(bytes, screen)?;
+        Document.play(bytes, screen)
+    });
+    PlaceOfSpare = OtherFault(|number, place| match number {
+        number::SPARE_BYTES => Refusal::new(number, place + CHUNK_HEADER),
+        _ => Refusal::new(number, place),
+    });
     PlaceOfFrame = OtherFault(|number, _| Refusal::new(number, 0));
     BlackPastPicture = OtherBlack(|screen| {
         screen.picture.fill(0);

@@ -219,6 +219,11 @@ pub fn of_frames() -> Models {
     with!(frames: frames::ALL)
 }
 
+/// Those of a frame's readings that take spare bytes otherwise.
+fn of_spare_bytes() -> Models {
+    of_frames().into_iter().filter(|(name, _)| name.contains("Spare")).collect()
+}
+
 pub fn seen_in_reading(base: u64) -> Vec<Wrong> {
     let mut all = models(of_frames(), &["read_frame"]);
     all.extend(trespassers(&READING));
@@ -231,6 +236,7 @@ pub fn seen_in_writing(base: u64) -> Vec<Wrong> {
     writes.extend(trespassers(&WRITING));
     see(&mut writes, &listed(&WRITE_FAMILIES[..SINGLE_WRITES]), 3_000, base);
     let mut rewrites = models(with!(house: house::REWRITING), &["rewrite_frame"]);
+    rewrites.extend(in_call("rewrite_frame", of_spare_bytes()));
     rewrites.extend(trespassers(&REWRITING));
     see(&mut rewrites, &listed(&REWRITE_FAMILIES[..SINGLE_REWRITES]), 3_000, base);
     writes.extend(rewrites);
@@ -250,7 +256,8 @@ pub fn seen_in_reels(base: u64) -> Vec<Wrong> {
         with!(checking: reels::CHECKING),
         with!(building: reels::BUILDING),
     ];
-    let playing: [Models; 2] = [with!(playing: reels::PLAYING), named(&["KeepsHalfReadFrame"], of_frames())];
+    let playing: [Models; 3] =
+        [with!(playing: reels::PLAYING), named(&["KeepsHalfReadFrame"], of_frames()), of_spare_bytes()];
     let mut all = models(wrong.concat(), &["check_reel", "open_reel", "add_frame", "close_reel"]);
     all.extend(in_call("check_reel", playing.concat()));
     all.extend(in_call("close_reel", playing.concat()));
