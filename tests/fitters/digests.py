@@ -10,7 +10,7 @@ STORED = (
     "blocks-1-even blocks-1-odd blocks-4-odd blocks-board "
     "edges-0-even edges-3-odd edges-4-even edges-4-odd edges-board "
     "colours-0 levels-2 white dark_levels-2 brun-2 copy-1 copy-padded ss2-1 lc-1 lc_below-0 stamp-0 unknown-2 spare-2 "
-    "black-1 odd-1 mixed-1 lc_padded-1 lc_odd-1 still-3 animator prefix top-unknown top-a1 top-f5fa after-ring behind-size"
+    "black-1 odd-1 mixed-1 lc_padded-1 lc_odd-1 still-3 padded-3 evened-0 animator prefix top-unknown top-a1 top-f5fa after-ring behind-size"
 ).split()
 
 HEAD = """\

@@ -28,12 +28,15 @@ class Document:
         return True
 
     def sub_chunk(self, kind, body):
+        """Gives where the data ends."""
         if kind in (COLOR256, COLOR):
-            self.colour(body, self.level64 if kind == COLOR else self.level256)
-        elif kind == BLACK:
+            return self.colour(body, self.level64 if kind == COLOR else self.level256)
+        if kind == BLACK:
             self.picture[:] = bytes(len(self.picture))
-        elif kind in (SS2, LC, BRUN, COPY):
-            {SS2: self.ss2, LC: self.lc, BRUN: self.brun, COPY: self.copy}[kind](body)
+            return 0
+        if kind in (SS2, LC, BRUN, COPY):
+            return {SS2: self.ss2, LC: self.lc, BRUN: self.brun, COPY: self.copy}[kind](body)
+        return len(body)
 
     def level256(self, component):
         return component
@@ -50,9 +53,11 @@ class Document:
             self.palette[3 * index:3 * (index + count)] = levels
             at += 2 + 3 * count
             index += count
+        return at
 
     def copy(self, body):
         self.picture[:] = body[:len(self.picture)]
+        return len(self.picture)
 
     def put(self, row, x, pixels):
         if x + len(pixels) > self.width or row >= self.height:
@@ -70,6 +75,7 @@ class Document:
                 pixels = body[at + 1:at + 1 + size] * max(1, n)
                 self.put(row, x, pixels)
                 at, x = at + 1 + size, x + len(pixels)
+        return at
 
     def packets(self, body, at, row, x, count, unit):
         """Packets of a delta's row; gives where they end."""
@@ -93,6 +99,7 @@ class Document:
             if at >= len(body):
                 raise Unforeseen("a row behind the chunk")
             at = self.packets(body, at + 1, row, 0, body[at], 1)
+        return at
 
     def last_pixel(self, row, pixel):
         self.put(row, self.width - 1, bytes([pixel]))
@@ -108,3 +115,4 @@ class Document:
             else:
                 at = self.packets(body, at, row, 0, w, 2)
                 row, lines = row + 1, lines - 1
+        return at

@@ -122,10 +122,26 @@ def still_frame(m):
     return frame([] if m.rng.randrange(2) else [even(m.lc())])
 
 
+def padded(c, rng):
+    """The chunk with a spare byte of any value behind its data."""
+    return chunk(reel.word(c, 4, 2), c[6:] + rng.randbytes(1))
+
+
+def padded_frame(m):
+    makers = [lambda: m.colour(COLOR256), lambda: m.colour(COLOR), lambda: m.ss2(False), m.lc, m.black, m.copy,
+              lambda: m.brun(True)]
+    return frame([padded(m.rng.choice(makers)(), m.rng)])
+
+
+def evened_frame(m):
+    makers = [lambda: m.colour(COLOR256), lambda: m.colour(COLOR), m.lc, m.lc, lambda: m.brun(True)]
+    return frame([even(m.rng.choice(makers)()) for _ in range(m.rng.randrange(1, 4))])
+
+
 FRAMES = {f.__name__.removesuffix("_frame"): f for f in (
     colours_frame, levels_frame, dark_levels_frame, brun_frame, copy_frame, ss2_frame, lc_frame, lc_below_frame,
     stamp_frame, unknown_frame, spare_frame, black_frame, odd_frame, mixed_frame, lc_padded_frame, lc_odd_frame,
-    still_frame)}
+    still_frame, padded_frame, evened_frame)}
 
 
 def first_frame(m):
