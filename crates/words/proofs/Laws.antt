@@ -7,8 +7,8 @@ use native.Mathlib.Nat.{zero-add, add-sub-cancel-left, mul-le-mul-right, mul-com
 use native.Mathlib.Omega.{arith}
 use lib.Dec.{eqb}
 use lib.ListN.{length, drop, take, set, getD, length-append, length-drop, length-set, take-append-drop, drop-of-length-le, replicate}
-use lib.Seq.{length-take-le, drop-drop, drop-cons, set-split, take-at, drop-at, take-append-le, take-take}
-use native.Mathlib.Numerals.{add-one}
+use lib.Seq.{length-take-le, drop-drop, drop-cons, set-split, take-at, drop-at, take-append-le, take-take, sets-eq}
+use native.Mathlib.Numerals.{add-one, unary-clauses}
 use borrow.Author.Tests.{lt-ltb, le-ltb, eq-eqb, ne-eqb, eqb-true}
 use Rattle.words.specs.Words.{magnitude, le16, le32, chunk, same, Bytes}
 use Rattle.words.specs.Writes.{Write, put, applied}
@@ -117,6 +117,12 @@ put-two d at x y h =
     put-one (set d at x) (at + 1) y (omega (arith, length-set d at x))
     ∙ ap (λ (l : List ℕ). put l (at + 1) (y ∷ [])) (put-one d at x (omega arith))
     ∙ sym (put-append d at (x ∷ []) (y ∷ []) 1 refl (omega arith))
+
+-- four bytes
+pub put-four : (d : List ℕ) (at p q r s : ℕ) → at + 4 ≤ length d → set (set (set (set d at p) (at + 1) q) (at + 2) r) (at + 3) s ≡ put d at (p ∷ q ∷ r ∷ s ∷ [])
+put-four d at p q r s h =
+    let v : List ℕ = p ∷ q ∷ r ∷ s ∷ [] in
+    simp unary-clauses (simp unary-clauses at (sets-eq v d at h ∙ append-assoc (take at d) v (drop (at + 4) d)))
 
 -- bytes compared
 

@@ -1,37 +1,47 @@
--- `copy_few` meets its contract: every byte of two to four is one of the first two or of the last two (`few-copied`).
+-- `copy_few` meets its contract: the first bytes and the last as many leave no gap (`ends-copied`).
+use Prim.Native.Nat.{_-_}
 use native.Mathlib.Omega.{arith}
 use borrow.Author.Needs.{needs}
-use lib.ListN.{length-set}
-use Rattle.words.proofs.Runs.{few-copied}
+use lib.ListN.{length}
+use Rattle.words.proofs.Runs.{ends-copied, one-copied}
 use Rattle.words.proofs.copy_few.Statement.{statement}
 use Rattle.words.proofs.copy_few.Tie as tie
 
-slice-write-dst-2 : tie.Need-slice-write-dst-2
-slice-write-dst-2 c = simp length-set (omega arith)
-
-slice-write-dst-3 : tie.Need-slice-write-dst-3
-slice-write-dst-3 c = simp length-set (omega arith)
-
-slice-write-dst-4 : tie.Need-slice-write-dst-4
-slice-write-dst-4 c = simp length-set (omega arith)
-
 returns : tie.Need-returns
-returns c = few-copied (c .before .before .before .before .args .dst .now) (c .before .before .before .before .args .src .now) _ (omega arith) (omega arith) (omega arith)
+returns c =
+    let a = c .before .before .before .before .before .before .before .before .before .before .before .args in
+    ends-copied (a .dst .now) (c .before .before .before .before .before .before .copy-eight .last .0) (c .before .before .copy-eight2 .last .0) (a .src .now) 8 (length (a .src .now) - 8) (omega arith) (omega arith) (omega arith) (c .before .before .before .before .before .before .copy-eight .ensures) (c .before .before .copy-eight2 .ensures)
+
+returns-2 : tie.Need-returns-2
+returns-2 c =
+    let a = c .before .before .before .before .before .before .before .before .before .before .before .before .args in
+    ends-copied (a .dst .now) (c .before .before .before .before .before .before .copy-four .last .0) (c .before .before .copy-four2 .last .0) (a .src .now) 4 (length (a .src .now) - 4) (omega arith) (omega arith) (omega arith) (c .before .before .before .before .before .before .copy-four .ensures) (c .before .before .copy-four2 .ensures)
+
+returns-3 : tie.Need-returns-3
+returns-3 c =
+    let a = c .before .before .before .before .before .before .before .before .before .before .before .before .before .args in
+    ends-copied (a .dst .now) (c .before .before .before .before .before .before .copy-two .last .0) (c .before .before .copy-two2 .last .0) (a .src .now) 2 (length (a .src .now) - 2) (omega arith) (omega arith) (omega arith) (c .before .before .before .before .before .before .copy-two .ensures) (c .before .before .copy-two2 .ensures)
+
+returns-4 : tie.Need-returns-4
+returns-4 c = one-copied (c .before .before .before .before .before .before .args .dst .now) (c .before .before .before .before .before .before .args .src .now) (omega arith) (omega arith)
 
 pub copy-few-spec : {M : Type 1} → statement M
 copy-few-spec =
     tie.close
     (tie.spec
+    (λ c κs. search needs)
+    (λ c κs. search needs)
+    (λ c. search needs)
+    returns
+    (λ c κs. search needs)
+    (λ c κs. search needs)
+    (λ c. search needs)
+    returns-2
+    (λ c κs. search needs)
+    (λ c κs. search needs)
+    (λ c. search needs)
+    returns-3
     (λ c. search needs)
     (λ c. search needs)
     (λ c. search needs)
-    (λ c. search needs)
-    (λ c. search needs)
-    (λ c. search needs)
-    (λ c. search needs)
-    slice-write-dst-2
-    slice-write-dst-3
-    (λ c. search needs)
-    slice-write-dst-4
-    (λ c. search needs)
-    returns)
+    returns-4)

@@ -3,8 +3,8 @@ use mathlib.Core.Path.{_≡_, sym, _∙_}
 use Prim.Native.Nat.{_≤_, _-_}
 use native.Mathlib.Omega.{arith}
 use borrow.Author.Needs.{needs}
-use lib.ListN.{length, take, replicate, length-set}
 use lib.Seq.{take-all}
+use lib.ListN.{length, take, replicate, length-set}
 use Rattle.words.proofs.Runs.{fill-step}
 use Rattle.words.proofs.fill.Statement.{statement}
 use Rattle.words.proofs.fill.Tie as tie
@@ -19,12 +19,15 @@ abbrev μ-loop : tie.MeasureT-loop
 returns : tie.Need-returns Inv-loop μ-loop
 returns c = c .before .before .fill-few .ensures
 
+returns-2 : tie.Need-returns-2 Inv-loop μ-loop
+returns-2 c = c .before .before .fill-some .ensures
+
 loop-again : tie.Need-loop-again Inv-loop μ-loop
 loop-again c =
     (simp length-set (omega arith), simp length-set (omega arith), fill-step (c .before .loop .part) (c .before .loop .i) (c .before .before .before .before .args .value) (search needs) (c .before .loop .inv .2))
 
-returns-2 : tie.Need-returns-2 Inv-loop μ-loop
-returns-2 c =
+returns-3 : tie.Need-returns-3 Inv-loop μ-loop
+returns-3 c =
     let at = c .before .loop in
     let all : length (c .before .before .before .before .args .part .now) ≡ at .i = omega arith in
     rw all (sym (take-all (at .i) (at .part) (omega arith)) ∙ at .inv .2)
@@ -38,10 +41,13 @@ fill-spec =
     (λ c κs. search needs)
     (λ c. search needs)
     returns
+    (λ c κs. search needs)
+    (λ c. search needs)
+    returns-2
     (λ c. search needs)
     (λ c. search needs)
     (λ c. search needs)
     (λ c. search needs)
     loop-again
     (λ c. search needs)
-    returns-2)
+    returns-3)
