@@ -10,6 +10,8 @@ pub const MAX_WIDTH: usize = 320;
 
 pub const MAX_HEIGHT: usize = 200;
 
+pub const MAX_AREA: usize = MAX_WIDTH * MAX_HEIGHT;
+
 pub const PALETTE_BYTES: usize = 768;
 
 // The most frames of a reel, the ring not counted.

@@ -14,7 +14,7 @@ use Rattle.format.specs.Format.{FRAME-TYPE}
 use Rattle.format.specs.declared.Size.{Size}
 use Rattle.walk.specs.declared.Verdict.{Verdict}
 use Rattle.answer.specs.declared.Answer.the-variants.{Done}
-use Rattle.read_frame.specs.Frame.{ChunkWalk, FrameWalk, stop, answerAfter, chunkThen, subChunk, subChunks, frame}
+use Rattle.read_frame.specs.Frame.{ChunkWalk, FrameWalk, stop, answerAfter, writesAfter, chunkThen, subChunk, subChunks, frame}
 use Rattle.chunks.specs.Headers.{headerAt, frameHeader}
 use Rattle.chunks.specs.declared.FrameHeader.the-variants.{Frame}
 use Rattle.chunks.specs.declared.Header.the-variants.{Chunk}
@@ -40,8 +40,8 @@ plays-more : (at : ℕ) (c : ChunkWalk) (f : FrameWalk) {p q p₁ q₁ p′ q′
 plays-more at c f {p} {q} {p₁} {q₁} {p′} {q′} x y =
     record {
       done = ap (λ (v : Verdict). answerAfter at v (f .answer)) (x .ended) ∙ y .done;
-      picture = applied-append (c .pixels) (f .pixels) p ∙ ap (applied (f .pixels)) (x .picture) ∙ y .picture;
-      palette = applied-append (c .colours) (f .colours) q ∙ ap (applied (f .colours)) (x .palette) ∙ y .palette;
+      picture = ap (λ (v : Verdict). applied (c .pixels ++ writesAfter v (f .pixels)) p) (x .ended) ∙ applied-append (c .pixels) (f .pixels) p ∙ ap (applied (f .pixels)) (x .picture) ∙ y .picture;
+      palette = ap (λ (v : Verdict). applied (c .colours ++ writesAfter v (f .colours)) q) (x .ended) ∙ applied-append (c .colours) (f .colours) q ∙ ap (applied (f .colours)) (x .palette) ∙ y .palette;
     }
 
 -- a chunk that stands at offset at of b, and what follows it

@@ -27,9 +27,6 @@ use state::holds;
 use words::put_header;
 use words::same_bytes;
 
-// The pixels of the largest picture.
-const MAX_AREA: usize = format::MAX_WIDTH * format::MAX_HEIGHT;
-
 // A sub-chunk before it is written: how many there are (0 or 1), its kind, its bytes.
 struct ChunkPlan {
     chunks: usize,
@@ -197,13 +194,6 @@ fn write_planned(
     Written::Done(whole)
 }
 
-// Room for what is noted of any picture's rows.
-fn rows_room() -> [u8; MAX_AREA]
-    ensures { λ r. ⌜ maxArea ≡ length r ⌝ }
-{
-    [0; MAX_AREA]
-}
-
 // The same where the pictures differ and rows are searched; delta: the bytes of the delta.
 fn write_searched(
     out: &mut [u8],
@@ -223,7 +213,7 @@ fn write_searched(
         ⌜ leaves (toldWritten r) (lentBytes (now (out .exit)))
         ≡ fitted (houseFrame size (state (now («previous_picture» .entry)) (now («previous_palette» .entry))) (state (now («next_picture» .entry)) (now («next_palette» .entry)))) (now (out .entry)) ⌝ }
 {
-    let mut rows = rows_room();
+    let mut rows = state::picture_room();
     let n = next_picture.len();
     let picture = measure_picture(&mut rows[0..n], next_picture, size, delta);
     write_planned(

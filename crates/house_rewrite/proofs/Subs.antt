@@ -20,7 +20,7 @@ use Rattle.chunks.specs.declared.FrameHeader.the-variants as whole
 use Rattle.chunks.specs.declared.Header.the-variants.{Chunk}
 use Rattle.chunks.proofs.Headers.{header-in}
 use Rattle.chunks.proofs.Spans.{subs-none, subs-step, subs-by}
-use Rattle.read_frame.specs.Frame.{FrameWalk, answerAfter, chunkThen, acted, subChunk, subChunks, afterFrameHeader, frame}
+use Rattle.read_frame.specs.Frame.{FrameWalk, answerAfter, writesAfter, chunkThen, acted, subChunk, subChunks, afterFrameHeader, frame}
 use Rattle.format.specs.declared.Size.{Size}
 use Rattle.house_frame.specs.House.{framed}
 use Rattle.house_back.proofs.Frames.{chunk-there, more-there, framed-header, framed-subs}
@@ -122,7 +122,9 @@ module _ (z : Size) (b : List ℕ) where
             end = went .0;
             long = omega (arith, same-size, inside .0, span-length b (k + 6) end (end - (k + 6)) (inside .1) (omega (arith, inside .0)));
             ended = went .1;
-            pixels = ap (λ (l : List _). subChunk z kind′ body .pixels ++ l) (acted-over ss (subSpans b m end .answer) over);
+            pixels =
+                ap (λ (v : Verdict). subChunk z kind′ body .pixels ++ writesAfter v (acted z b ss (subSpans b m end .answer) .pixels)) (went .1)
+                ∙ ap (λ (l : List _). subChunk z kind′ body .pixels ++ l) (acted-over ss (subSpans b m end .answer) over);
           })
 
 pub frame-single : (z : Size) (c : List ℕ) (kind size : ℕ) → frame z c .answer ≡ Done → subsOf c ≡ record { kind = kind; size = size } ∷ []

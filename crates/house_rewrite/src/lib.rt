@@ -1,7 +1,6 @@
 // Rewriting one frame in house form: document 01, "House form of a frame" and "Refusal numbers".
 ghost use mathlib.Core.Path.{_≡_};
 ghost use Rattle.answer.specs.Answer.{toldWritten};
-ghost use Rattle.answer.specs.declared.Answer.the-variants.{Done};
 ghost use Rattle.state.specs.State.{state, Exact};
 ghost use Rattle.state.specs.Outcome.{lentBytes, lentBytesPair, leaves, fitted};
 ghost use Rattle.read_frame.specs.Frame.{frame};
@@ -13,6 +12,7 @@ use answer::Written;
 use format::PALETTE_BYTES;
 use format::Size;
 use state::holds;
+use walk::Pass;
 
 // Plays a frame, which was accepted, on a copy of the previous state, and writes the house frame that leads there.
 fn rewrite_accepted(
@@ -24,8 +24,7 @@ fn rewrite_accepted(
     previous_palette: &[u8],
     size: Size,
 ) -> Written
-    requires { ⌜ Exact size (state (now «work_picture») (now «work_palette»)) × Exact size (state (now «previous_picture») (now «previous_palette»))
-        × (frame size (now bytes) .answer ≡ Done) ⌝ }
+    requires { ⌜ Exact size (state (now «work_picture») (now «work_palette»)) × Exact size (state (now «previous_picture») (now «previous_palette»)) ⌝ }
     ensures picture { λ _. ⌜ now («work_picture» .exit)
         ≡ played (frame size (now (bytes .entry))) (state (now («previous_picture» .entry)) (now («previous_palette» .entry))) .picture ⌝ }
     ensures palette { λ _. ⌜ now («work_palette» .exit)
@@ -36,7 +35,7 @@ fn rewrite_accepted(
 {
     words::copy(work_picture, previous_picture);
     words::copy(work_palette, previous_palette);
-    read_frame::play_frame(work_picture, work_palette, bytes, size);
+    read_frame::walk_frame(work_picture, work_palette, bytes, size, Pass::Wet);
     house_frame::write_house(
         out,
         previous_picture,

@@ -1,22 +1,24 @@
 -- Laws of the definitions in specs/Brun.antt that the proofs of the readers cite.
 use mathlib.Core.Path.{_≡_, ap, _∙_, sym, refl, ap₂, subst}
-use mathlib.Core.List.{List}
+use mathlib.Core.List.{List, []}
 use mathlib.Core.Bool.{Bool, true, false, cond}
 use Prim.Native.Nat.{ℕ, suc, zero, _≤_, _<_, _+_, _-_, _*_}
 use native.Mathlib.Nat.{not-suc-le-zero, le-of-suc-le-suc, suc-sub-suc}
 use native.Mathlib.Numerals.{sub-one}
 use native.Mathlib.Omega.{arith}
-use borrow.Author.Tests.{le-leb, lt-leb, lt-ltb, le-ltb, ltb-true, ltb-false, leb-true, leb-false}
+use borrow.Author.Tests.{le-leb, lt-leb, lt-ltb, le-ltb, ltb-true, ltb-false, leb-true}
 use lib.ListN.{length, drop, take, getD, replicate, length-drop, length-replicate, length-append}
 use lib.Seq.{length-take-le}
 use lib.Dec.{leb, ltb}
 use Rattle.words.specs.Words.{require_else_then_, magnitude, Bytes}
 use Rattle.words.specs.Writes.{put, applied}
-use Rattle.words.proofs.Laws.{magnitude-plus, magnitude-minus, put-append, row-in, bytes-getD, bytes-take, bytes-drop}
+use Rattle.words.proofs.Laws.{magnitude-plus, magnitude-minus, put-nil, put-append, row-in, bytes-getD, bytes-take, bytes-drop}
 use Rattle.words.proofs.Bytewise.{bytes-join, bytes-replicate}
 use Rattle.words.proofs.Tests.{by-test, cond-holds}
-use Rattle.walk.specs.Walk.{Ended}
-use Rattle.walk.proofs.Laws.{VerdictIn, fault-not-end}
+use Rattle.walk.specs.Walk.{stored, Room}
+use Rattle.walk.specs.declared.Pass.{Pass}
+use Rattle.walk.specs.declared.Pass.the-variants.{Dry, Wet}
+use Rattle.walk.proofs.Laws.{VerdictIn, fault-not-end, wrote-one, seen}
 use Rattle.walk.proofs.Sound.{Sound}
 use Rattle.answer.specs.declared.Refusal.{Refusal}
 use Rattle.answer.specs.declared.Refusal.the-variants.{BodyEnds, ZeroCount, PastWidth}
@@ -82,6 +84,12 @@ module _ (b : List ℕ) (at left : ℕ) where
   packet-whole h z k l =
       simp (le-leb (at + 1) (length b) h, le-leb 1 (magnitude (getD b at 0)) z, le-leb (magnitude (getD b at 0)) left k, le-leb (at + 1 + dataBytes (getD b at 0)) (length b) l)
 
+  -- the same where n pixels are given and the data ends at end
+  pub packet-told : (n end : ℕ) → at + 1 ≤ length b → 1 ≤ n → n ≤ left → end ≤ length b → magnitude (getD b at 0) ≡ n → at + 1 + dataBytes (getD b at 0) ≡ end
+      → Pixels (getD b at 0) n end ≡ packetAt b at left
+  packet-told n end h z k l m d =
+      sym (packet-whole h (omega arith) (omega arith) (omega arith) ∙ ap₂ (λ (x y : ℕ). Pixels (getD b at 0) x y) m d)
+
 -- packets of a row
 
 module _ (b : List ℕ) where
@@ -115,33 +123,6 @@ module _ (b : List ℕ) where
       packets-as left at h (Pixels t n end) q
       ∙ ap (λ (r : Run). runBefore (pixels b (at + 1) t) r) (packets-skip (left - 1) (n - 1) end (omega arith) ∙ ap (λ (k : ℕ). packets b k 0 end) e)
 
-  -- of packets that meet no fault the first is whole
-
-  pub record First (left at : ℕ) : Type 0 where
-    pub whole : packetAt b at left ≡ Pixels (getD b at 0) (magnitude (getD b at 0)) (at + 1 + dataBytes (getD b at 0))
-    pub some : 1 ≤ magnitude (getD b at 0)
-    pub fits : magnitude (getD b at 0) ≤ left
-    pub in-body : at + 1 + dataBytes (getD b at 0) ≤ length b
-
-  pub packets-first : (left at : ℕ) → 0 < left → Ended (packets b left 0 at .verdict) → First left at
-  packets-first left at h e =
-      go (leb (at + 1) (length b)) (leb 1 (magnitude (getD b at 0))) (leb (magnitude (getD b at 0)) left) (leb (at + 1 + dataBytes (getD b at 0)) (length b)) refl refl refl refl
-    where
-      met : {C : Type 0} {r : Refusal} → packetAt b at left ≡ Fault r → C
-      met q = absurd (subst (λ (k : Run). Ended (k .verdict)) (packets-stop left at h _ q) e)
-
-      go : (p q r s : Bool) → leb (at + 1) (length b) ≡ p → leb 1 (magnitude (getD b at 0)) ≡ q → leb (magnitude (getD b at 0)) left ≡ r
-          → leb (at + 1 + dataBytes (getD b at 0)) (length b) ≡ s → First left at
-      go true true true true i j k l =
-          let z = leb-true _ _ j in
-          let m = leb-true _ _ k in
-          let n = leb-true _ _ l in
-          record { whole = packet-whole b at left (leb-true _ _ i) z m n; some = z; fits = m; in-body = n }
-      go true true true false i j k l = met (packet-short b at left (leb-true _ _ i) (leb-true _ _ j) (leb-true _ _ k) (leb-false _ _ l))
-      go true true false s i j k l = met (packet-past b at left (leb-true _ _ i) (leb-true _ _ j) (leb-false _ _ k))
-      go true false r s i j k l = met (packet-zero b at left (leb-true _ _ i) (leb-false _ _ j))
-      go false q r s i j k l = met (packet-cut b at left (leb-false _ _ i))
-
 -- a row
 
 module _ (w : ℕ) (b : List ℕ) (at : ℕ) where
@@ -152,13 +133,6 @@ module _ (w : ℕ) (b : List ℕ) (at : ℕ) where
   pub row-open : at + 1 ≤ length b → row w b at ≡ packets b w 0 (at + 1)
   unfolding row
   row-open h = simp (le-leb (at + 1) (length b) h)
-
-  -- a row that meets no fault has its ignored byte
-  pub row-there : Ended (row w b at .verdict) → at + 1 ≤ length b
-  row-there e =
-      by-test (λ c. at + 1 ≤ length b) (leb (at + 1) (length b))
-      (λ i. leb-true _ _ i)
-      (λ i. absurd (subst (λ (k : Run). Ended (k .verdict)) (row-cut (leb-false _ _ i)) e))
 
 -- rows
 
@@ -177,14 +151,6 @@ module _ (w : ℕ) (b : List ℕ) where
   pub rows-stop : (h at : ℕ) → 0 < h → (e : Refusal) → row w b at .verdict ≡ verdict.Fault e
       → rows w b h at ≡ record { pixels = row w b at .pixels; verdict = verdict.Fault e }
   rows-stop h at k e q = rows-as h at k (verdict.Fault e) q
-
-  -- of rows that meet no fault the first meets none
-  pub rows-first : (h at : ℕ) → 0 < h → Ended (rows w b h at .verdict) → Ended (row w b at .verdict)
-  rows-first h at k e = go (row w b at .verdict) refl
-    where
-      go : (v : Verdict) → row w b at .verdict ≡ v → Ended v
-      go (verdict.Ends end) q = tt
-      go (verdict.Fault r) q = subst (λ (k : Run). Ended (k .verdict)) (rows-stop h at k r q) e
 
   pub rows-more : (h at : ℕ) → 0 < h → (end : ℕ) → row w b at .verdict ≡ verdict.Ends end → rows w b h at ≡ runBefore (row w b at .pixels) (rows w b (h - 1) end)
   rows-more h at k end q = rows-as h at k (verdict.Ends end) q
@@ -309,21 +275,54 @@ pub brun-applied : (w h : ℕ) (b d : List ℕ) → applied (brun w h b .writes)
 unfolding brun applied
 brun-applied w h b d = refl
 
--- a picture that meets no fault is of rows that meet none
-pub brun-ended : (w h : ℕ) (b : List ℕ) → Ended (brun w h b .verdict) → Ended (rows w b h 0 .verdict)
-unfolding brun
-brun-ended w h b e = e
+-- how a run comes out, and what a pass over it leaves of d, its pixels going there from index to on
+unfoldable pub shown : Pass → Run → List ℕ → ℕ → Verdict × List ℕ
+shown p r d to = (r .verdict, stored p d to (r .pixels))
 
-abbrev pub shown : List ℕ → ℕ → Run → List ℕ
-shown d to r = put d to (r .pixels)
+pub shown-gives : (p : Pass) (r : Run) (d : List ℕ) (to : ℕ) (e : List ℕ) (v : Verdict) → shown p r d to ≡ (v, e)
+    → (v ≡ r .verdict) × (e ≡ stored p d to (r .pixels))
+unfolding shown
+shown-gives p r d to e v s = (sym (ap (λ (x : Verdict × List ℕ). x .0) s), sym (ap (λ (x : Verdict × List ℕ). x .1) s))
 
--- a row that ends, and then the rows below it
-pub rows-played : (w h : ℕ) (b d : List ℕ) (k at end : ℕ) → k < h → w * h ≤ length d → row w b at .verdict ≡ verdict.Ends end
-    → shown d (k * w) (rows w b (h - k) at) ≡ shown (shown d (k * w) (row w b at)) ((k + 1) * w) (rows w b (h - (k + 1)) end)
-rows-played w h b d k at end fits room v =
-    let n = row-length w b at end v in
-    let e : h - k - 1 ≡ h - (k + 1) = omega arith in
-    let p : k * w + w ≡ (k + 1) * w = omega arith in
-    ap (shown d (k * w)) (rows-more w b (h - k) at (omega arith) end v)
-    ∙ put-append d (k * w) (row w b at .pixels) (rows w b (h - k - 1) end .pixels) w n (omega (arith, row-in w h k fits))
-    ∙ ap₂ (λ (x y : ℕ). put (shown d (k * w) (row w b at)) x (rows w b y end .pixels)) p e
+pub shown-none : (p : Pass) (r : Run) (d : List ℕ) (to : ℕ) (v : Verdict) → r ≡ record { pixels = []; verdict = v } → shown p r d to ≡ (v, d)
+unfolding shown
+shown-none Dry r d to v e = ap (λ (x : Run). (x .verdict, d)) e
+shown-none Wet r d to v e = ap (λ (x : Run). shown Wet x d to) e ∙ ap (λ (x : List ℕ). (v, x)) (put-nil d to)
+
+-- n pixels, which leave e of d, and then the rest
+shown-on : (p : Pass) (d e : List ℕ) (to : ℕ) (px : List ℕ) (n : ℕ) (r : Run) → length px ≡ n → Room p (to + n) d → e ≡ stored p d to px
+    → shown p (runBefore px r) d to ≡ shown p r e (to + n)
+unfolding shown
+shown-on Dry d e to px n r l room s = ap (λ (x : List ℕ). (r .verdict, x)) (sym s)
+shown-on Wet d e to px n r l room s =
+    ap (λ (x : List ℕ). (r .verdict, x)) (put-append d to px (r .pixels) n l (room refl) ∙ ap (λ (x : List ℕ). put x (to + n) (r .pixels)) (sym s))
+
+-- a whole packet, which leaves e of d, and then the packets after it
+pub packets-on : (p : Pass) (b d e : List ℕ) (to left at : ℕ) → 0 < left → (t n end : ℕ) → packetAt b at left ≡ Pixels t n end → Room p (to + left) d
+    → e ≡ stored p d to (pixels b (at + 1) t) → shown p (packets b left 0 at) d to ≡ shown p (packets b (left - n) 0 end) e (to + n)
+packets-on p b d e to left at h t n end q room s =
+    let i = packet-in b at left _ q in
+    ap (λ (r : Run). shown p r d to) (packets-more b left at h t n end q (i .0) (i .1))
+    ∙ shown-on p d e to (pixels b (at + 1) t) n (packets b (left - n) 0 end) (length-pixels b (at + 1) t (omega (arith, i .3, i .4)) ∙ i .2)
+    (λ wet. omega (arith, room wet, i .1)) s
+
+-- row k of h, which leaves e of d: the rows below it, if it ends; no more, if it meets a fault
+module _ (p : Pass) (w h : ℕ) (b d e : List ℕ) (k at : ℕ) (fits : k < h) (left : e ≡ stored p d (k * w) (row w b at .pixels)) where
+  pub rows-on : (end : ℕ) → row w b at .verdict ≡ verdict.Ends end → Room p (w * h) d
+      → shown p (rows w b (h - k) at) d (k * w) ≡ shown p (rows w b (h - (k + 1)) end) e ((k + 1) * w)
+  rows-on end v room =
+      let m : h - k - 1 ≡ h - (k + 1) = omega arith in
+      let n : k * w + w ≡ (k + 1) * w = omega arith in
+      ap (λ (r : Run). shown p r d (k * w)) (rows-more w b (h - k) at (omega arith) end v)
+      ∙ shown-on p d e (k * w) (row w b at .pixels) w (rows w b (h - k - 1) end) (row-length w b at end v) (λ wet. omega (arith, row-in w h k fits, room wet)) left
+      ∙ ap₂ (λ (x y : ℕ). shown p (rows w b x end) e y) m n
+
+  pub rows-stopped : (f : Refusal) → row w b at .verdict ≡ verdict.Fault f → shown p (rows w b (h - k) at) d (k * w) ≡ (verdict.Fault f, e)
+  unfolding shown
+  rows-stopped f v =
+      ap (λ (r : Run). shown p r d (k * w)) (rows-stop w b (h - k) at (omega arith) f v) ∙ ap (λ (x : List ℕ). (verdict.Fault f, x)) (sym left)
+
+-- the picture is its rows, from the first pixel on
+pub brun-seen : (p : Pass) (w h : ℕ) (b d : List ℕ) → seen p (brun w h b) d ≡ shown p (rows w b h 0) d 0
+unfolding brun seen shown
+brun-seen p w h b d = ap (λ (x : List ℕ). (rows w b h 0 .verdict, x)) (wrote-one p 0 (rows w b h 0 .pixels) d)

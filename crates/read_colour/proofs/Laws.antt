@@ -11,14 +11,15 @@ use lib.ListN.{length, drop, take, getD, length-map, length-drop, drop-of-length
 use lib.Seq.{length-take-le}
 use lib.Dec.{leb}
 use Rattle.words.specs.Words.{require_else_then_, u16At, Bytes}
-use Rattle.words.specs.Writes.{put, applied}
 use Rattle.words.proofs.Laws.{bytes-take, bytes-drop}
 use Rattle.words.proofs.Runs.{map-same}
 use Rattle.words.proofs.Tests.{by-test, both-true}
 use Rattle.format.specs.Format.{maxLevel, raised}
 use Rattle.format.proofs.Laws.{raised-byte}
 use Rattle.walk.proofs.Sound.{Sound, sound-ends, sound-fault, sound-then}
-use Rattle.walk.specs.Walk.{Walk, ends, fault, andThen}
+use Rattle.walk.specs.Walk.{Walk, ends, fault, andThen, stored}
+use Rattle.walk.specs.declared.Pass.{Pass}
+use Rattle.walk.proofs.Laws.{seen, seen-then}
 use Rattle.read_colour.specs.Colour.{level, lowLevels, levelsOk, countOf, packets, packetOf, packetAt, afterPacket, colour}
 use Rattle.answer.specs.declared.Refusal.{Refusal}
 use Rattle.answer.specs.declared.Refusal.the-variants.{BodyEnds, PastPalette, OverLevel}
@@ -152,11 +153,14 @@ module _ (levels : Levels) (b : List ℕ) where
       → packets levels b n at i ≡ andThen to (map (level levels) (take len (drop from b))) (packets levels b (n - 1) (from + len) next)
   packets-more n at i h from to len next q = packets-step n at i h ∙ ap (λ (p : ColourStep). afterPacket levels b p (λ at′ i′. packets levels b (n - 1) at′ i′)) (sym q)
 
-  -- what a whole packet does, and then the packets after it
-  pub play-more : (n at i : ℕ) → 0 < n → (from to len next : ℕ) → Colours from to len next ≡ packetAt levels b at i → (d : List ℕ)
-      → applied (packets levels b n at i .writes) d ≡ applied (packets levels b (n - 1) (from + len) next .writes) (put d to (map (level levels) (take len (drop from b))))
-  unfolding applied
-  play-more n at i h from to len next e d = ap (λ (w : Walk). applied (w .writes) d) (packets-more n at i h from to len next e)
+  -- a whole packet, which leaves e of d, and then the packets after it
+  pub packets-on : (p : Pass) (d e : List ℕ) (n at i : ℕ) → 0 < n → (from to len next : ℕ) → Colours from to len next ≡ packetAt levels b at i
+      → e ≡ stored p d to (map (level levels) (take len (drop from b)))
+      → seen p (packets levels b n at i) d ≡ seen p (packets levels b (n - 1) (from + len) next) e
+  packets-on p d e n at i h from to len next q s =
+      ap (λ (k : Walk). seen p k d) (packets-more n at i h from to len next q)
+      ∙ seen-then p to (map (level levels) (take len (drop from b))) d (packets levels b (n - 1) (from + len) next)
+      ∙ ap (seen p (packets levels b (n - 1) (from + len) next)) (sym s)
 
   pub colours-open : (n : ℕ) → 2 ≤ length b → n ≡ u16At b 0 → colour levels b ≡ packets levels b n 2 0
   unfolding colour

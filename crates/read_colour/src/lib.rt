@@ -1,12 +1,11 @@
 // Reading kinds 4 and 11, colour: document 01, "Frames, chunks and rows".
-// A check writes nothing; a play does the writes that come before the first fault.
 ghost use mathlib.Core.Path.{_≡_};
 ghost use mathlib.Core.Bool.{true};
 ghost use mathlib.Core.List.{map};
 ghost use Prim.Native.Nat.{_+_, _≤_, _<_};
-ghost use lib.ListN.{length};
-ghost use Rattle.words.specs.Writes.{applied};
+ghost use lib.ListN.{length, take, drop};
 ghost use Rattle.format.specs.Format.{raised};
+ghost use Rattle.walk.specs.Walk.{stored, wrote, Room};
 ghost use Rattle.read_colour.specs.Colour.{level, lowLevels, levelsOk, countOf, packetAt, colour};
 
 // How many levels a component has: 256 in kind 4, 64 in kind 11.
@@ -114,9 +113,36 @@ fn packet_at(body: &[u8], at: usize, i: usize, levels: Levels) -> ColourStep
     }
 }
 
-// Checks a body.
-pub fn check_colour(body: &[u8], levels: Levels) -> walk::Verdict
-    ensures { λ r. ⌜ r ≡ colour levels (now (body .entry)) .verdict ⌝ }
+// Stores the len components at offset from of the body in the palette, from index to on, as they are shown.
+fn put_colours(
+    palette: &mut [u8],
+    body: &[u8],
+    from: usize,
+    to: usize,
+    len: usize,
+    levels: Levels,
+    pass: walk::Pass,
+)
+    requires { ⌜ (from + len ≤ length (now body)) × Room pass (to + len) (now palette)
+        × (levelsOk levels (take len (drop from (now body))) ≡ true) ⌝ }
+    ensures { λ _. ⌜ now (palette .exit) ≡ stored pass (now (palette .entry)) to (map (level levels) (take len (drop from (now (body .entry))))) ⌝ }
+{
+    match pass {
+        walk::Pass::Dry => {}
+        walk::Pass::Wet => put_levels(&mut palette[to..to + len], &body[from..from + len], levels),
+    }
+}
+
+// Walks over a body, for a palette.
+pub fn walk_colour(
+    palette: &mut [u8],
+    body: &[u8],
+    levels: Levels,
+    pass: walk::Pass,
+) -> walk::Verdict
+    requires { ⌜ Room pass 768 (now palette) ⌝ }
+    ensures verdict { λ r. ⌜ r ≡ colour levels (now (body .entry)) .verdict ⌝ }
+    ensures writes { λ _. ⌜ now (palette .exit) ≡ wrote pass (colour levels (now (body .entry)) .writes) (now (palette .entry)) ⌝ }
 {
     if body.len() < 2 {
         return walk::Verdict::Fault(answer::Refusal::BodyEnds);
@@ -131,10 +157,11 @@ pub fn check_colour(body: &[u8], levels: Levels) -> walk::Verdict
             }
             ColourStep::Colours {
                 from,
-                to: _,
+                to,
                 len,
                 next,
             } => {
+                put_colours(palette, body, from, to, len, levels, pass);
                 at = from + len;
                 index = next;
             }
@@ -142,35 +169,4 @@ pub fn check_colour(body: &[u8], levels: Levels) -> walk::Verdict
         left = left - 1;
     }
     walk::Verdict::Ends(at)
-}
-
-// Does the writes of a body on a palette.
-pub fn play_colour(palette: &mut [u8], body: &[u8], levels: Levels)
-    requires { ⌜ 768 ≤ length (now palette) ⌝ }
-    ensures { λ _. ⌜ now (palette .exit) ≡ applied (colour levels (now (body .entry)) .writes) (now (palette .entry)) ⌝ }
-{
-    if body.len() < 2 {
-        return;
-    }
-    let mut left = words::u16_at(body, 0);
-    let mut at = 2;
-    let mut index = 0;
-    while left > 0 {
-        match packet_at(body, at, index, levels) {
-            ColourStep::Fault(_) => {
-                return;
-            }
-            ColourStep::Colours {
-                from,
-                to,
-                len,
-                next,
-            } => {
-                put_levels(&mut palette[to..to + len], &body[from..from + len], levels);
-                at = from + len;
-                index = next;
-            }
-        }
-        left = left - 1;
-    }
 }

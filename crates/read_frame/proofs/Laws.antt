@@ -1,16 +1,16 @@
 -- Laws of the definitions in specs/ that the proofs of the readers cite.
-use mathlib.Core.Path.{_≡_, ap, _∙_, sym, refl, subst}
-use mathlib.Core.List.{List}
-use mathlib.Core.Bool.{true, false, cond}
+use mathlib.Core.Path.{_≡_, ap, ap₂, _∙_, sym, refl}
+use mathlib.Core.List.{List, _++_, append-nil}
+use mathlib.Core.Bool.{Bool, true, false, _||_, cond}
 use Prim.Native.Nat.{ℕ, suc, _≤_, _<_, _+_, _-_}
 use native.Mathlib.Omega.{arith}
 use borrow.Author.Tests.{ne-eqb, le-leb, lt-leb}
-use lib.Dec.{leb}
-use lib.ListN.{length}
+use lib.Dec.{leb, eqb}
+use lib.ListN.{length, take, take-append-drop}
 use Rattle.words.specs.Words.{part}
 use Rattle.words.proofs.Tests.{by-test}
-use Rattle.words.specs.Writes.{applied}
-use Rattle.words.proofs.Laws.{applied-append}
+use Rattle.words.proofs.Laws.{span-length}
+use Rattle.words.specs.Writes.{Write}
 use Rattle.answer.specs.declared.Refusal.{Refusal}
 use Rattle.answer.specs.declared.Refusal.the-variants.{ShortSlice, BadSize, SpareBytes}
 use Rattle.walk.specs.declared.Verdict.{Verdict}
@@ -18,22 +18,24 @@ use Rattle.walk.specs.declared.Verdict.the-variants as verdict
 use Rattle.answer.specs.declared.Answer.{Answer}
 use Rattle.answer.specs.declared.Answer.the-variants.{Done, Refused}
 use Rattle.format.specs.Limits.{sizeOk}
-use Rattle.walk.specs.Walk.{Ended}
-use Rattle.read_brun.specs.Brun.{brun}
-use Rattle.read_lc.specs.Lc.{lc}
-use Rattle.read_ss2.specs.Ss2.{ss2}
+use Rattle.walk.specs.Walk.{Walk, wrote}
+use Rattle.walk.specs.declared.Pass.{Pass}
+use Rattle.walk.proofs.Laws.{wrote-none, wrote-append}
 use Rattle.chunks.specs.declared.FrameHeader.{FrameHeader}
+use Rattle.chunks.specs.declared.FrameHeader.the-variants as whole
 use Rattle.chunks.specs.declared.Header.the-variants.{Fault, Chunk}
 use Rattle.chunks.specs.Headers.{headerAt, frameHeader}
-use Rattle.chunks.specs.Spans.{Spans}
+use Rattle.chunks.specs.Spans.{Spans, subSpans}
+use Rattle.chunks.proofs.Headers.{frame-in}
 use Rattle.chunks.proofs.Spans.{subs-none, subs-step, subs-by}
-use Rattle.read_frame.specs.Frame.{afterFrameHeader, judged, skipped, ChunkWalk, subChunk, FrameWalk, stop, answerAfter, chunkThen, acted, subChunks, frame}
+use Rattle.read_frame.specs.Frame.{afterFrameHeader, judged, onPicture, onPalette, skipped, ChunkWalk, subChunk, FrameWalk, stop, answerAfter, writesAfter, chunkThen, acted, subChunks, frame}
 use Rattle.format.specs.Limits.{area}
 use Rattle.format.specs.declared.Size.{Size}
-use Rattle.state.specs.State.{State, enough}
-use Rattle.state.specs.Outcome.{lentPair, refuse}
-use Rattle.read_frame.specs.Reading.{readBy, readFrame}
-use Rattle.state.specs.State.{enough}
+use Rattle.state.specs.State.{State, state, enough, front, refilled}
+use Rattle.state.specs.Outcome.{lentPair, leaves, refuse}
+use Rattle.answer.specs.Answer.{told}
+use Rattle.read_frame.specs.Packets.{packetsIn, packetBytes}
+use Rattle.read_frame.specs.Reading.{played, settled, readBy, readFrame}
 
 -- what is left behind a body's data
 
@@ -50,36 +52,33 @@ judged-ends size (verdict.Ends to) end q =
     by-test (λ t. (cond t (verdict.Ends to) (verdict.Fault SpareBytes)) ≡ verdict.Ends end → verdict.Ends to ≡ verdict.Ends end) (leb size (to + 1)) (λ h k. k)
     (λ h k. let z : _≡_ {A = ℕ} 0 1 = cc in absurd (omega arith)) q
 
-judged-ended : (size : ℕ) (v : Verdict) → Ended (judged size v) → Ended v
-judged-ended size (verdict.Fault e) i = i
-judged-ended size (verdict.Ends to) i = tt
-
 module _ (z : Size) (kind : ℕ) (b : List ℕ) where
   pub chunk-is : (k : ℕ) → kind ≡ k → subChunk z kind b ≡ subChunk z k b
   chunk-is k e = ap (λ (x : ℕ). subChunk z x b) e
-
-  chunk-ended : (k : ℕ) → kind ≡ k → Ended (subChunk z kind b .verdict) → Ended (subChunk z k b .verdict)
-  chunk-ended k e i = subst (λ (c : ChunkWalk). Ended (c .verdict)) (chunk-is k e) i
-
-  -- the walks of kinds whose play asks that they end
-  module _ (i : Ended (subChunk z kind b .verdict)) where
-    pub ss2-ended : kind ≡ 7 → Ended (ss2 (z .width) (z .height) b .verdict)
-    unfolding subChunk
-    ss2-ended e = judged-ended (length b) (ss2 (z .width) (z .height) b .verdict) (chunk-ended 7 e i)
-
-    pub lc-ended : kind ≡ 12 → Ended (lc (z .width) (z .height) b .verdict)
-    unfolding subChunk
-    lc-ended e = judged-ended (length b) (lc (z .width) (z .height) b .verdict) (chunk-ended 12 e i)
-
-    pub brun-ended : kind ≡ 15 → Ended (brun (z .width) (z .height) b .verdict)
-    unfolding subChunk
-    brun-ended e = judged-ended (length b) (brun (z .width) (z .height) b .verdict) (chunk-ended 15 e i)
 
   pub chunk-other : (kind ≡ 4 → ⊥) → (kind ≡ 7 → ⊥) → (kind ≡ 11 → ⊥) → (kind ≡ 12 → ⊥) → (kind ≡ 13 → ⊥) → (kind ≡ 15 → ⊥) → (kind ≡ 16 → ⊥)
       → subChunk z kind b ≡ skipped b
   unfolding subChunk
   chunk-other p q r s t u v =
       simp (ne-eqb kind 4 p, ne-eqb kind 7 q, ne-eqb kind 11 r, ne-eqb kind 12 s, ne-eqb kind 13 t, ne-eqb kind 15 u, ne-eqb kind 16 v)
+
+-- what a pass over a body on the picture, or on the palette, gives; the other stays
+module _ (z : Size) (kind : ℕ) (b : List ℕ) (k : Walk) (p : Pass) (v : Verdict) (out : v ≡ judged (length b) (k .verdict)) where
+  pub on-picture : (d e picture : List ℕ) → subChunk z kind b ≡ onPicture (length b) k → picture ≡ wrote p (k .writes) d
+      → (v ≡ subChunk z kind b .verdict) × ((picture ≡ wrote p (subChunk z kind b .pixels) d) × (e ≡ wrote p (subChunk z kind b .colours) e))
+  on-picture d e picture is left =
+      (out ∙ sym (ap (λ (c : ChunkWalk). c .verdict) is), (left ∙ sym (ap (λ (c : ChunkWalk). wrote p (c .pixels) d) is), sym (ap (λ (c : ChunkWalk). wrote p (c .colours) e) is ∙ wrote-none p e)))
+
+  pub on-palette : (d e palette : List ℕ) → subChunk z kind b ≡ onPalette (length b) k → palette ≡ wrote p (k .writes) e
+      → (v ≡ subChunk z kind b .verdict) × ((d ≡ wrote p (subChunk z kind b .pixels) d) × (palette ≡ wrote p (subChunk z kind b .colours) e))
+  on-palette d e palette is left =
+      (out ∙ sym (ap (λ (c : ChunkWalk). c .verdict) is), (sym (ap (λ (c : ChunkWalk). wrote p (c .pixels) d) is ∙ wrote-none p d), left ∙ sym (ap (λ (c : ChunkWalk). wrote p (c .colours) e) is)))
+
+-- a sub-chunk that is stepped over
+pub stepped-over : (z : Size) (kind : ℕ) (b : List ℕ) (p : Pass) (d e : List ℕ) → subChunk z kind b ≡ skipped b
+    → (verdict.Ends (length b) ≡ subChunk z kind b .verdict) × ((d ≡ wrote p (subChunk z kind b .pixels) d) × (e ≡ wrote p (subChunk z kind b .colours) e))
+stepped-over z kind b p d e is =
+    (sym (ap (λ (c : ChunkWalk). c .verdict) is), (sym (ap (λ (c : ChunkWalk). wrote p (c .pixels) d) is ∙ wrote-none p d), sym (ap (λ (c : ChunkWalk). wrote p (c .colours) e) is ∙ wrote-none p e)))
 
 module _ (z : Size) (b : List ℕ) where
   abbrev all : Spans → FrameWalk
@@ -108,59 +107,107 @@ module _ (z : Size) (b : List ℕ) where
     unfolding subChunks
     chunks-by n at = subs-by b (λ (m k : ℕ) (s : Spans). C m k (all s)) none fault more n at
 
-  -- the answer after a sub-chunk
-  module _ (n at : ℕ) (i : 0 < n) (kind end : ℕ) (q : headerAt b at ≡ Chunk kind end) where
-    abbrev ans : Verdict → Answer
-    ans v = answerAfter at v (subChunks z b (n - 1) end .answer)
+-- what a pass over sub-chunks gives: the answer, and what is left of a picture and a palette
 
-    pub chunks-bad : (e : Refusal) → subChunk z kind (part b (at + 6) end) .verdict ≡ verdict.Fault e → subChunks z b n at .answer ≡ Refused e at
-    chunks-bad e v = ap (λ (f : FrameWalk). f .answer) (chunks-more n at i kind end q) ∙ ap ans v
+unfoldable pub seen : Pass → FrameWalk → State → Answer × State
+seen p f s = (f .answer, state (wrote p (f .pixels) (s .picture)) (wrote p (f .colours) (s .palette)))
 
-    pub chunks-good : (d : ℕ) → subChunk z kind (part b (at + 6) end) .verdict ≡ verdict.Ends d → subChunks z b n at .answer ≡ subChunks z b (n - 1) end .answer
-    chunks-good d v = ap (λ (f : FrameWalk). f .answer) (chunks-more n at i kind end q) ∙ ap ans v
+pub seen-gives : (p : Pass) (f : FrameWalk) (s : State) (a : Answer) (d e : List ℕ) → seen p f s ≡ (a, state d e)
+    → (a ≡ f .answer) × ((d ≡ wrote p (f .pixels) (s .picture)) × (e ≡ wrote p (f .colours) (s .palette)))
+unfolding seen
+seen-gives p f s a d e q =
+    (sym (ap (λ (x : Answer × State). x .0) q), (sym (ap (λ (x : Answer × State). x .1 .picture) q), sym (ap (λ (x : Answer × State). x .1 .palette) q)))
 
-    -- of sub-chunks that are accepted the first meets no fault, and the others are accepted
+seen-stop : (p : Pass) (a : Answer) (s : State) → seen p (stop a) s ≡ (a, s)
+unfolding seen
+seen-stop p a s = ap₂ (λ (d e : List ℕ). (a, state d e)) (wrote-none p (s .picture)) (wrote-none p (s .palette))
 
-    pub chunks-first : subChunks z b n at .answer ≡ Done → Ended (subChunk z kind (part b (at + 6) end) .verdict)
-    chunks-first d = go (subChunk z kind (part b (at + 6) end) .verdict) refl
-      where
-        go : (v : Verdict) → subChunk z kind (part b (at + 6) end) .verdict ≡ v → Ended v
-        go (verdict.Ends k) v = tt
-        go (verdict.Fault e) v = let r = chunks-bad e v in let z : _≡_ {A = ℕ} 0 1 = cc in absurd (omega arith)
+-- the state after a pass over a sub-chunk
+abbrev pub chunkSeen : Pass → ChunkWalk → State → State
+chunkSeen p c s = state (wrote p (c .pixels) (s .picture)) (wrote p (c .colours) (s .palette))
 
-    pub chunks-rest : subChunks z b n at .answer ≡ Done → subChunks z b (n - 1) end .answer ≡ Done
-    chunks-rest d = go (subChunk z kind (part b (at + 6) end) .verdict) refl
-      where
-        go : (v : Verdict) → subChunk z kind (part b (at + 6) end) .verdict ≡ v → subChunks z b (n - 1) end .answer ≡ Done
-        go (verdict.Ends k) v = sym (chunks-good k v) ∙ d
-        go (verdict.Fault e) v = let r = chunks-bad e v in let z : _≡_ {A = ℕ} 0 1 = cc in absurd (omega arith)
+-- a sub-chunk that ends, and then the rest; one at fault
+module _ (p : Pass) (at : ℕ) (c : ChunkWalk) (f : FrameWalk) (s : State) where
+  seen-on : (end : ℕ) → c .verdict ≡ verdict.Ends end → seen p (chunkThen at c f) s ≡ seen p f (chunkSeen p c s)
+  unfolding seen
+  seen-on end v =
+      ap (λ (x : Verdict). (answerAfter at x (f .answer), state (wrote p (c .pixels ++ writesAfter x (f .pixels)) (s .picture)) (wrote p (c .colours ++ writesAfter x (f .colours)) (s .palette)))) v
+      ∙ ap₂ (λ (d e : List ℕ). (f .answer, state d e)) (wrote-append p (c .pixels) (f .pixels) (s .picture)) (wrote-append p (c .colours) (f .colours) (s .palette))
 
--- what sub-chunks write
+  seen-off : (e : Refusal) → c .verdict ≡ verdict.Fault e → seen p (chunkThen at c f) s ≡ (Refused e at, chunkSeen p c s)
+  unfolding seen
+  seen-off e v =
+      ap (λ (x : Verdict). (answerAfter at x (f .answer), state (wrote p (c .pixels ++ writesAfter x (f .pixels)) (s .picture)) (wrote p (c .colours ++ writesAfter x (f .colours)) (s .palette)))) v
+      ∙ ap₂ (λ (d e′ : List Write). (Refused e at, state (wrote p d (s .picture)) (wrote p e′ (s .palette)))) (append-nil (c .pixels)) (append-nil (c .colours))
 
-abbrev pub pixelsOn : List ℕ → FrameWalk → List ℕ
-pixelsOn d f = applied (f .pixels) d
+module _ (z : Size) (b : List ℕ) (p : Pass) (n at : ℕ) (s : State) where
+  pub seen-none : n ≤ 0 → seen p (subChunks z b n at) s ≡ (Done, s)
+  seen-none i = ap (λ (f : FrameWalk). seen p f s) (chunks-none z b n at i) ∙ seen-stop p Done s
 
-abbrev pub coloursOn : List ℕ → FrameWalk → List ℕ
-coloursOn d f = applied (f .colours) d
+  module _ (i : 0 < n) where
+    pub seen-fault : (e : Refusal) → headerAt b at ≡ Fault e → seen p (subChunks z b n at) s ≡ (Refused e at, s)
+    seen-fault e q = ap (λ (f : FrameWalk). seen p f s) (chunks-stop z b n at i e q) ∙ seen-stop p (Refused e at) s
 
-module _ (z : Size) (b : List ℕ) (n at : ℕ) (i : 0 < n) (kind end : ℕ) (q : headerAt b at ≡ Chunk kind end) (d : List ℕ) where
-  pub pixels-more : pixelsOn d (subChunks z b n at)
-      ≡ pixelsOn (applied (subChunk z kind (part b (at + 6) end) .pixels) d) (subChunks z b (n - 1) end)
-  pixels-more =
-      ap (pixelsOn d) (chunks-more z b n at i kind end q)
-      ∙ applied-append (subChunk z kind (part b (at + 6) end) .pixels) (subChunks z b (n - 1) end .pixels) d
+    -- a sub-chunk over which a pass left this verdict and this state
+    module _ (kind end : ℕ) (q : headerAt b at ≡ Chunk kind end) (t : State) (is : t ≡ chunkSeen p (subChunk z kind (part b (at + 6) end)) s) where
+      pub seen-good : (d : ℕ) → verdict.Ends d ≡ subChunk z kind (part b (at + 6) end) .verdict → seen p (subChunks z b n at) s ≡ seen p (subChunks z b (n - 1) end) t
+      seen-good d v =
+          ap (λ (f : FrameWalk). seen p f s) (chunks-more z b n at i kind end q) ∙ seen-on p at (subChunk z kind (part b (at + 6) end)) (subChunks z b (n - 1) end) s d (sym v)
+          ∙ ap (seen p (subChunks z b (n - 1) end)) (sym is)
 
-  pub colours-more : coloursOn d (subChunks z b n at)
-      ≡ coloursOn (applied (subChunk z kind (part b (at + 6) end) .colours) d) (subChunks z b (n - 1) end)
-  colours-more =
-      ap (coloursOn d) (chunks-more z b n at i kind end q)
-      ∙ applied-append (subChunk z kind (part b (at + 6) end) .colours) (subChunks z b (n - 1) end .colours) d
+      pub seen-bad : (e : Refusal) → verdict.Fault e ≡ subChunk z kind (part b (at + 6) end) .verdict → seen p (subChunks z b n at) s ≡ (Refused e at, t)
+      seen-bad e v =
+          ap (λ (f : FrameWalk). seen p f s) (chunks-more z b n at i kind end q) ∙ seen-off p at (subChunk z kind (part b (at + 6) end)) (subChunks z b (n - 1) end) s e (sym v)
+          ∙ ap (λ (x : State). (Refused e at, x)) (sym is)
+
+-- a wet pass over a walk that is done has played it, and one over a walk that is refused doesn't matter: the state is put back
+pub settled-done : (f : FrameWalk) (a : Answer) (s : State) → a ≡ Done → settled f a s ≡ played f s
+settled-done f a s e = ap (λ (x : Answer). settled f x s) e
+
+pub settled-refused : (f : FrameWalk) (a : Answer) (s : State) (e : Refusal) (place : ℕ) → a ≡ Refused e place → settled f a s ≡ s
+settled-refused f a s e place q = ap (λ (x : Answer). settled f x s) q
+
+-- bytes in packets
+
+module _ (b : List ℕ) (n at : ℕ) where
+  abbrev inAll : ℕ
+  inAll = packetBytes (subSpans b n at .met)
+
+  pub packets-none : n ≤ 0 → inAll ≡ 0
+  unfolding packetBytes
+  packets-none i = ap (λ (s : Spans). packetBytes (s .met)) (subs-none b n at i)
+
+  module _ (i : 0 < n) where
+    pub packets-fault : (e : Refusal) → headerAt b at ≡ Fault e → inAll ≡ 0
+    unfolding packetBytes
+    packets-fault e q = ap (λ (s : Spans). packetBytes (s .met)) (subs-step b n at i (Fault e) q)
+
+    pub packets-more : (kind end : ℕ) → headerAt b at ≡ Chunk kind end → inAll ≡ packetsIn kind (end - at) + packetBytes (subSpans b (n - 1) end .met)
+    unfolding packetBytes
+    packets-more kind end q = ap (λ (s : Spans). packetBytes (s .met)) (subs-step b n at i (Chunk kind end) q)
+
+-- a sub-chunk of packets, and another
+pub packets-of : (kind bytes : ℕ) → (eqb kind 7 || (eqb kind 12 || eqb kind 15)) ≡ true → bytes ≡ packetsIn kind bytes
+unfolding packetsIn
+packets-of kind bytes e = sym (ap (λ (t : Bool). cond t bytes 0) e)
+
+pub packets-not : (kind bytes : ℕ) → (kind ≡ 7 → ⊥) → (kind ≡ 12 → ⊥) → (kind ≡ 15 → ⊥) → 0 ≡ packetsIn kind bytes
+unfolding packetsIn
+packets-not kind bytes p q r = simp (ne-eqb kind 7 p, ne-eqb kind 12 q, ne-eqb kind 15 r)
 
 -- the whole frame
 
 pub frame-as : (z : Size) (b : List ℕ) (f : FrameHeader) → frameHeader b ≡ f → frame z b ≡ afterFrameHeader z b f
 unfolding frame
 frame-as z b f e = ap (afterFrameHeader z b) e
+
+-- where its header is right: the part that is handed on, which begins at 0
+module _ (z : Size) (b : List ℕ) (count size : ℕ) (is : frameHeader b ≡ whole.Frame count size) where
+  pub frame-part : frame z b ≡ subChunks z (take (size - 0) b) count 16
+  frame-part = let n : size ≡ size - 0 = omega arith in frame-as z b (whole.Frame count size) is ∙ ap (λ (k : ℕ). subChunks z (take k b) count 16) n
+
+  pub part-long : 16 ≤ length (take (size - 0) b)
+  part-long = let i = frame-in b (whole.Frame count size) is in omega (arith, span-length b 0 size size (i .1) (omega arith), i .0)
 
 -- reading
 
@@ -177,3 +224,10 @@ module _ (b : List ℕ) (z : Size) (lent : State) where
       → readFrame b z lent ≡ readBy (area z) (frame z b) a lent
   unfolding readFrame
   read-by e k a r = rw (e, k) (ap (λ (x : Answer). readBy (area z) (frame z b) x lent) r)
+
+-- what a pair holds, of which the front was played
+pub read-settled : (n : ℕ) (f : FrameWalk) (a : Answer) (lent : State)
+    → leaves (told a) (lentPair (refilled n (settled f a (front n lent)) lent)) ≡ readBy n f a lent
+read-settled n f Done lent = refl
+read-settled n f (Refused e place) lent =
+    ap₂ (λ (d k : List ℕ). leaves (told (Refused e place)) (lentPair (state d k))) (take-append-drop n (lent .picture)) (take-append-drop 768 (lent .palette))

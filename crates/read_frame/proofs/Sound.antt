@@ -15,6 +15,8 @@ use Rattle.format.specs.Limits.{area}
 use Rattle.format.specs.declared.Size.{Size}
 use Rattle.state.specs.State.{State, Exact}
 use Rattle.walk.specs.Walk.{Walk}
+use Rattle.walk.specs.declared.Verdict.{Verdict}
+use Rattle.walk.specs.declared.Verdict.the-variants as verdict
 use Rattle.walk.proofs.Sound.{Sound}
 use Rattle.chunks.specs.Headers.{frameHeader}
 use Rattle.chunks.specs.declared.FrameHeader.{FrameHeader}
@@ -25,7 +27,7 @@ use Rattle.read_full.proofs.Laws.{black-sound, copied-sound}
 use Rattle.read_brun.proofs.Laws.{brun-sound}
 use Rattle.read_lc.proofs.Laws.{lc-sound}
 use Rattle.read_ss2.proofs.Laws.{ss2-sound}
-use Rattle.read_frame.specs.Frame.{ChunkWalk, FrameWalk, onPicture, onPalette, subChunk, subChunks, afterFrameHeader, frame}
+use Rattle.read_frame.specs.Frame.{ChunkWalk, FrameWalk, writesAfter, onPicture, onPalette, subChunk, subChunks, afterFrameHeader, frame}
 use Rattle.read_frame.specs.Reading.{played}
 use Rattle.read_frame.proofs.Laws.{chunks-by}
 
@@ -59,6 +61,11 @@ module _ (z : Size) (wide : 1 ≤ z .width) where
       on-palette : (k : Walk) → Sound b 768 k → Ok (onPalette (length b) k)
       on-palette k s = record { in-picture = tt; in-palette = s .inside; of-bytes = λ i. (tt, s .bytewise i) }
 
+  -- what follows a sub-chunk: all of it, or nothing
+  sound-after : (b : List ℕ) (v : Verdict) (ps cs : List Write) → FrameSound z b ps cs → FrameSound z b (writesAfter v ps) (writesAfter v cs)
+  sound-after b (verdict.Ends end) ps cs s = s
+  sound-after b (verdict.Fault e) ps cs s = none z b
+
   chunks-sound : (b : List ℕ) (n at : ℕ) → FrameSound z b (subChunks z b n at .pixels) (subChunks z b n at .colours)
   chunks-sound b n at =
       chunks-by z b (λ (m k : ℕ) (f : FrameWalk). FrameSound z b (f .pixels) (f .colours)) (λ k. none z b) (λ m k e q. none z b)
@@ -66,13 +73,16 @@ module _ (z : Size) (wide : 1 ≤ z .width) where
       let body = part b (k + 6) end in
       let x = subChunk z kind body in
       let c = chunk-sound kind body in
+      let ps = writesAfter (x .verdict) (subChunks z b m end .pixels) in
+      let cs = writesAfter (x .verdict) (subChunks z b m end .colours) in
+      let more = sound-after b (x .verdict) (subChunks z b m end .pixels) (subChunks z b m end .colours) rest in
       record {
-        in-picture = inside-append (area z) (x .pixels) (subChunks z b m end .pixels) (c .in-picture) (rest .in-picture);
-        in-palette = inside-append 768 (x .colours) (subChunks z b m end .colours) (c .in-palette) (rest .in-palette);
+        in-picture = inside-append (area z) (x .pixels) ps (c .in-picture) (more .in-picture);
+        in-palette = inside-append 768 (x .colours) cs (c .in-palette) (more .in-palette);
         of-bytes = λ i.
             let d = c .of-bytes (bytes-take (end - (k + 6)) (drop (k + 6) b) (bytes-drop (k + 6) b i)) in
-            let r = rest .of-bytes i in
-            (bytewise-append (x .pixels) (subChunks z b m end .pixels) (d .0) (r .0), bytewise-append (x .colours) (subChunks z b m end .colours) (d .1) (r .1));
+            let r = more .of-bytes i in
+            (bytewise-append (x .pixels) ps (d .0) (r .0), bytewise-append (x .colours) cs (d .1) (r .1));
       }) n at
 
   pub frame-sound : (b : List ℕ) → FrameSound z b (frame z b .pixels) (frame z b .colours)

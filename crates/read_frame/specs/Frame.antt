@@ -61,7 +61,7 @@ subChunk z kind b =
     (cond (eqb kind FLI-COPY) (onPicture (length b) (copied (area z) b))
     (skipped b)))))))
 
--- What a frame says: all writes in order, and the answer to it.
+-- What a frame says: the writes met before the first fault, in order, and the answer to it.
 pub record FrameWalk : Type 0 where
   pub pixels : List Write
   pub colours : List Write
@@ -75,12 +75,17 @@ abbrev pub answerAfter : ℕ → Verdict → Answer → Answer
 answerAfter at (verdict.Ends end) a = a
 answerAfter at (verdict.Fault e) a = Refused e at
 
+-- the writes of what follows a sub-chunk that came out so: a fault ends the walk
+abbrev pub writesAfter : Verdict → List Write → List Write
+writesAfter (verdict.Ends end) ws = ws
+writesAfter (verdict.Fault e) ws = []
+
 -- a sub-chunk at offset at, and then the rest of the frame: "Sub-chunks act in file order"
 abbrev pub chunkThen : ℕ → ChunkWalk → FrameWalk → FrameWalk
 chunkThen at c f =
     record {
-      pixels = c .pixels ++ f .pixels;
-      colours = c .colours ++ f .colours;
+      pixels = c .pixels ++ writesAfter (c .verdict) (f .pixels);
+      colours = c .colours ++ writesAfter (c .verdict) (f .colours);
       answer = answerAfter at (c .verdict) (f .answer);
     }
 

@@ -17,6 +17,11 @@ use Rattle.read_frame.specs.Frame.{FrameWalk, frame}
 abbrev pub played : FrameWalk → State → State
 played f s = state (applied (f .pixels) (s .picture)) (applied (f .colours) (s .palette))
 
+-- the state after a walk that is answered so: a refusal changes nothing
+abbrev pub settled : FrameWalk → Answer → State → State
+settled f Done s = played f s
+settled f (Refused e place) s = s
+
 -- what a frame that is answered so leaves in a pair that was lent for a picture of n pixels
 abbrev pub readBy : ℕ → FrameWalk → Answer → State → Outcome
 readBy n f Done lent = leaves (told Done) (lentPair (refilled n (played f (front n lent)) lent))

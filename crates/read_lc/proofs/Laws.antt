@@ -1,5 +1,5 @@
 -- Laws of kind 12, LC: what a row's start says, what a row, rows and a body come to.
-use mathlib.Core.Path.{_≡_, ap, ap₂, _∙_, sym, refl, subst}
+use mathlib.Core.Path.{_≡_, ap, ap₂, _∙_, sym, refl}
 use mathlib.Core.List.{List}
 use Prim.Native.Nat.{ℕ, suc, zero, _≤_, _<_, _+_, _-_, _*_}
 use native.Mathlib.Nat.{not-suc-le-zero}
@@ -9,15 +9,15 @@ use borrow.Author.Tests.{le-leb, lt-leb, leb-true, leb-false}
 use lib.Dec.{leb}
 use lib.ListN.{length, getD}
 use Rattle.words.specs.Words.{u16At, require_else_then_}
-use Rattle.words.proofs.Laws.{applied-append}
 use Rattle.words.proofs.Tests.{by-test}
+use Rattle.answer.specs.declared.Refusal.{Refusal}
 use Rattle.answer.specs.declared.Refusal.the-variants.{BodyEnds, PastHeight}
-use Rattle.walk.specs.declared.Verdict.{Verdict}
 use Rattle.walk.specs.declared.Verdict.the-variants as verdict
-use Rattle.walk.specs.Walk.{Walk, Ended, ends, fault, onward}
-use Rattle.walk.proofs.Laws.{after}
+use Rattle.walk.specs.declared.Pass.{Pass}
+use Rattle.walk.specs.Walk.{Walk, ends, fault, followed, wrote}
+use Rattle.walk.proofs.Laws.{seen, seen-onward, seen-stopped}
 use Rattle.walk.proofs.Sound.{Sound, sound-ends, sound-fault, sound-onward}
-use Rattle.read_packets.proofs.Laws.{packets-row, packets-sound}
+use Rattle.read_packets.proofs.Laws.{packets-sound}
 use Rattle.read_lc.specs.Lc.{startAt, afterStart, rowAt, rows, lc}
 use Rattle.read_lc.specs.declared.Start.{Start}
 use Rattle.read_lc.specs.declared.Start.the-variants.{Fault, Row}
@@ -54,16 +54,6 @@ module _ (w : ℕ) (b : List ℕ) where
   unfolding rowAt
   row-as row at s e = ap (afterStart w b row) e
 
-  -- the row doesn't bear on how it comes out
-  pub row-row : (row at : ℕ) → rowAt w b row at .verdict ≡ rowAt w b 0 at .verdict
-  row-row row at = go (startAt b at) refl
-    where
-      go : (s : Start) → startAt b at ≡ s → rowAt w b row at .verdict ≡ rowAt w b 0 at .verdict
-      go (Fault e) q = ap (λ (k : Walk). k .verdict) (row-as row at (Fault e) q ∙ sym (row-as 0 at (Fault e) q))
-      go (Row count from) q =
-          ap (λ (k : Walk). k .verdict) (row-as row at (Row count from) q) ∙ packets-row 1 w b count row from 0
-          ∙ sym (ap (λ (k : Walk). k .verdict) (row-as 0 at (Row count from) q))
-
   -- its data ends within the body, and it writes bytes of it, within a picture of h rows
   pub row-sound : (h row at : ℕ) → row < h → Sound b (w * h) (rowAt w b row at)
   row-sound h row at k = go (startAt b at) refl
@@ -80,40 +70,20 @@ module _ (w : ℕ) (b : List ℕ) where
   rows-none zero row at k = refl
   rows-none (suc n) row at k = absurd (not-suc-le-zero k)
 
-  -- rows of which the first comes out as v
-  pub rows-as : (n row at : ℕ) → 0 < n → (v : Verdict) → rowAt w b row at .verdict ≡ v
-      → rows w b n row at ≡ onward (rowAt w b row at .writes) v (λ end. rows w b (n - 1) (row + 1) end)
+  rows-step : (n row at : ℕ) → 0 < n → rows w b n row at ≡ followed (rowAt w b row at) (λ end. rows w b (n - 1) (row + 1) end)
   unfolding rows
-  rows-as zero row at k v q = absurd (not-suc-le-zero k)
-  rows-as (suc n) row at k v q =
-      ap₂ (λ (x : Verdict) (m : ℕ). onward (rowAt w b row at .writes) x (λ end. rows w b m (row + 1) end)) q (sym (sub-one (suc n)))
+  rows-step zero row at k = absurd (not-suc-le-zero k)
+  rows-step (suc n) row at k = ap (λ (m : ℕ). followed (rowAt w b row at) (λ end. rows w b m (row + 1) end)) (sym (sub-one (suc n)))
 
-  -- of rows that meet no fault the first meets none
-  pub rows-first : (n row at : ℕ) → 0 < n → Ended (rows w b n row at .verdict) → Ended (rowAt w b row at .verdict)
-  rows-first n row at k e = go (rowAt w b row at .verdict) refl
-    where
-      go : (v : Verdict) → rowAt w b row at .verdict ≡ v → Ended v
-      go (verdict.Ends end) q = tt
-      go (verdict.Fault r) q = subst (λ (i : Walk). Ended (i .verdict)) (rows-as n row at k (verdict.Fault r) q) e
+  -- a row, which leaves e of d: the rows after it, if it ends; no more, if it meets a fault
+  module _ (p : Pass) (d e : List ℕ) (n row at : ℕ) (some : 0 < n) (left : e ≡ wrote p (rowAt w b row at .writes) d) where
+    pub rows-on : (end : ℕ) → rowAt w b row at .verdict ≡ verdict.Ends end → seen p (rows w b n row at) d ≡ seen p (rows w b (n - 1) (row + 1) end) e
+    rows-on end v =
+        ap (λ (k : Walk). seen p k d) (rows-step n row at some) ∙ seen-onward p (rowAt w b row at) (λ end. rows w b (n - 1) (row + 1) end) d e left end v
 
-  -- what a row that ends writes, and then the rows after it
-  pub rows-played : (d : List ℕ) (n row at : ℕ) → 0 < n → (end : ℕ) → rowAt w b row at .verdict ≡ verdict.Ends end
-      → after d (rows w b n row at) ≡ after (after d (rowAt w b row at)) (rows w b (n - 1) (row + 1) end)
-  rows-played d n row at k end q =
-      ap (after d) (rows-as n row at k (verdict.Ends end) q) ∙ applied-append (rowAt w b row at .writes) (rows w b (n - 1) (row + 1) end .writes) d
-
-  -- the first row doesn't bear on how rows come out
-  pub rows-row : (n row at : ℕ) → rows w b n row at .verdict ≡ rows w b n 0 at .verdict
-  unfolding rows
-  rows-row zero row at = refl
-  rows-row (suc n) row at =
-      ap (λ (v : Verdict). onward (rowAt w b row at .writes) v (λ end. rows w b n (row + 1) end) .verdict) (row-row w b row at)
-      ∙ go (rowAt w b 0 at .verdict) (λ end. rows-row n (row + 1) end ∙ sym (rows-row n (0 + 1) end))
-    where
-      go : (v : Verdict) → ((end : ℕ) → rows w b n (row + 1) end .verdict ≡ rows w b n (0 + 1) end .verdict)
-          → onward (rowAt w b row at .writes) v (λ end. rows w b n (row + 1) end) .verdict ≡ onward (rowAt w b 0 at .writes) v (λ end. rows w b n (0 + 1) end) .verdict
-      go (verdict.Ends end) same = same end
-      go (verdict.Fault e) same = refl
+    pub rows-stopped : (f : Refusal) → rowAt w b row at .verdict ≡ verdict.Fault f → seen p (rows w b n row at) d ≡ (verdict.Fault f, e)
+    rows-stopped f v =
+        ap (λ (k : Walk). seen p k d) (rows-step n row at some) ∙ seen-stopped p (rowAt w b row at) (λ end. rows w b (n - 1) (row + 1) end) d e left f v
 
   -- their data ends within the body, and they write bytes of it, within a picture of h rows
   pub rows-sound : (h n row at : ℕ) → at ≤ length b → row + n ≤ h → Sound b (w * h) (rows w b n row at)

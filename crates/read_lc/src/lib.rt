@@ -1,12 +1,9 @@
 // Reading kind 12, LC: document 01, "Frames, chunks and rows".
-// A check writes nothing; a play does the writes of a body that the check accepts.
 ghost use mathlib.Core.Path.{_≡_};
 ghost use Prim.Native.Nat.{_+_, _*_, _≤_};
 ghost use lib.ListN.{length};
-ghost use Rattle.words.specs.Writes.{applied};
-ghost use Rattle.format.specs.Limits.{Wide};
-ghost use Rattle.walk.specs.Walk.{Ended};
-ghost use Rattle.walk.specs.declared.Verdict.the-variants.{Ends};
+ghost use Rattle.format.specs.Limits.{Wide, High};
+ghost use Rattle.walk.specs.Walk.{wrote, Room};
 ghost use Rattle.read_lc.specs.Lc.{startAt, rowAt, lc};
 
 // A row's start: a fault, or the packet count and the offset of the first packet.
@@ -29,79 +26,59 @@ fn start_at(body: &[u8], at: usize) -> Start
     }
 }
 
-// Checks the row at offset at.
-fn check_row(body: &[u8], at: usize, width: usize) -> walk::Verdict
-    requires { ⌜ (at ≤ length (now body)) × Wide width ⌝ }
-    ensures { λ r. ⌜ r ≡ rowAt width (now (body .entry)) 0 at .verdict ⌝ }
+// Walks over the row at offset at, row row of the picture.
+fn walk_row(
+    picture: &mut [u8],
+    body: &[u8],
+    at: usize,
+    width: usize,
+    row: usize,
+    pass: walk::Pass,
+) -> walk::Verdict
+    requires { ⌜ (at ≤ length (now body)) × Wide width × High row × Room pass (row * width + width) (now picture) ⌝ }
+    ensures verdict { λ r. ⌜ r ≡ rowAt width (now (body .entry)) row at .verdict ⌝ }
+    ensures writes { λ _. ⌜ now (picture .exit) ≡ wrote pass (rowAt width (now (body .entry)) row at .writes) (now (picture .entry)) ⌝ }
 {
     match start_at(body, at) {
         Start::Fault(e) => walk::Verdict::Fault(e),
         Start::Row { count, from } => {
-            read_packets::check_packets(body, count, from, 0, width, 1)
+            read_packets::walk_packets(picture, body, count, from, width, row, 1, pass)
         }
     }
 }
 
-// Plays the row at offset at, on row row of the picture. Returns the offset where its data ends; a row that is played has no fault.
-fn play_row(picture: &mut [u8], body: &[u8], at: usize, width: usize, row: usize) -> usize
-    requires { ⌜ (at ≤ length (now body)) × Wide width × (row * width + width ≤ length (now picture))
-        × Ended (rowAt width (now body) row at .verdict) ⌝ }
-    ensures verdict { λ r. ⌜ rowAt width (now (body .entry)) row at .verdict ≡ Ends r ⌝ }
-    ensures writes { λ _. ⌜ now (picture .exit) ≡ applied (rowAt width (now (body .entry)) row at .writes) (now (picture .entry)) ⌝ }
-{
-    match start_at(body, at) {
-        Start::Fault(_) => at,
-        Start::Row { count, from } => {
-            read_packets::play_packets(picture, body, count, from, 0, width, row, 1)
-        }
-    }
-}
-
-// Checks a body, for a picture of this width and height.
-pub fn check_lc(body: &[u8], width: usize, height: usize) -> walk::Verdict
-    requires { ⌜ Wide width ⌝ }
-    ensures { λ r. ⌜ r ≡ lc width height (now (body .entry)) .verdict ⌝ }
+// Walks over a body, for a picture of this width and height.
+pub fn walk_lc(
+    picture: &mut [u8],
+    body: &[u8],
+    width: usize,
+    height: usize,
+    pass: walk::Pass,
+) -> walk::Verdict
+    requires { ⌜ Wide width × High height × Room pass (width * height) (now picture) ⌝ }
+    ensures verdict { λ r. ⌜ r ≡ lc width height (now (body .entry)) .verdict ⌝ }
+    ensures writes { λ _. ⌜ now (picture .exit) ≡ wrote pass (lc width height (now (body .entry)) .writes) (now (picture .entry)) ⌝ }
 {
     if body.len() < 4 {
         return walk::Verdict::Fault(answer::Refusal::BodyEnds);
     }
-    let first = words::u16_at(body, 0);
+    let mut row = words::u16_at(body, 0);
     let mut left = words::u16_at(body, 2);
-    if height < first + left {
+    if height < row + left {
         return walk::Verdict::Fault(answer::Refusal::PastHeight);
     }
     let mut at = 4;
     while left > 0 {
-        match check_row(body, at, width) {
+        match walk_row(picture, body, at, width, row, pass) {
             walk::Verdict::Fault(e) => {
                 return walk::Verdict::Fault(e);
             }
             walk::Verdict::Ends(end) => {
                 at = end;
+                row += 1;
                 left -= 1;
             }
         }
     }
     walk::Verdict::Ends(at)
-}
-
-// Does the writes of a body on a picture of this width and height.
-pub fn play_lc(picture: &mut [u8], body: &[u8], width: usize, height: usize)
-    requires { ⌜ Wide width × (width * height ≤ length (now picture)) × Ended (lc width height (now body) .verdict) ⌝ }
-    ensures { λ _. ⌜ now (picture .exit) ≡ applied (lc width height (now (body .entry)) .writes) (now (picture .entry)) ⌝ }
-{
-    if body.len() < 4 {
-        return;
-    }
-    let mut row = words::u16_at(body, 0);
-    let mut left = words::u16_at(body, 2);
-    if height < row + left {
-        return;
-    }
-    let mut at = 4;
-    while left > 0 {
-        at = play_row(picture, body, at, width, row);
-        row += 1;
-        left -= 1;
-    }
 }

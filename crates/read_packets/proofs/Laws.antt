@@ -1,24 +1,25 @@
 -- Laws of the packets of a delta row: what each type of packet has, what each packet says, what a row of them comes to.
-use mathlib.Core.Path.{_≡_, ap, ap₂, _∙_, sym, refl, subst}
+use mathlib.Core.Path.{_≡_, ap, ap₂, _∙_, sym, refl}
 use mathlib.Core.List.{List, [], _∷_, _++_, append-nil, append-assoc}
 use mathlib.Core.Bool.{Bool, true, false}
-use Prim.Native.Nat.{ℕ, suc, zero, _≤_, _<_, _+_, _-_, _*_}
-use native.Mathlib.Nat.{not-suc-le-zero, le-of-suc-le-suc, mul-comm, zero-mul, suc-mul, mul-le-mul}
+use Prim.Native.Nat.{ℕ, suc, zero, _≤_, _<_, _+_, _-_, _*_, _/_, _%_}
+use native.Mathlib.Nat.{not-suc-le-zero, le-of-suc-le-suc, mul-comm, zero-mul, suc-mul, mul-le-mul, add-zero}
 use native.Mathlib.Numerals.{add-one, sub-one}
 use native.Mathlib.Omega.{arith}
 use borrow.Author.Tests.{le-leb, lt-leb, lt-ltb, le-ltb, ltb-true, ltb-false, leb-true, leb-false, eqb-true, eq-eqb, ne-eqb}
 use lib.Dec.{leb, ltb, eqb}
-use lib.ListN.{length, drop, take, set, getD, replicate, length-drop, length-append}
-use lib.Seq.{length-take-le, drop-cons}
-use Rattle.words.specs.Words.{magnitude, Bytes}
-use Rattle.words.specs.Writes.{put, applied}
-use Rattle.words.proofs.Laws.{magnitude-plus, magnitude-minus, row-in, bytes-take, bytes-drop}
+use lib.ListN.{length, drop, take, set, getD, replicate, length-drop, length-append, drop-of-length-le}
+use lib.Seq.{length-take-le, drop-cons, take-append-le}
+use Rattle.words.specs.Words.{magnitude, le32, Bytes}
+use Rattle.words.specs.Writes.{put}
+use Rattle.words.proofs.Laws.{magnitude-plus, magnitude-minus, put-front, length-put, row-in, bytes-take, bytes-drop}
 use Rattle.words.proofs.Bytewise.{bytes-join}
 use Rattle.words.proofs.Tests.{by-test, cond-holds}
 use Rattle.answer.specs.declared.Refusal.{Refusal}
 use Rattle.answer.specs.declared.Refusal.the-variants.{BodyEnds, PastWidth}
-use Rattle.walk.specs.Walk.{Walk, Ended, ends, fault, andThen}
-use Rattle.walk.proofs.Laws.{after}
+use Rattle.walk.specs.Walk.{Walk, ends, fault, andThen, stored}
+use Rattle.walk.specs.declared.Pass.{Pass}
+use Rattle.walk.proofs.Laws.{seen, seen-then}
 use Rattle.walk.proofs.Sound.{Sound, sound-ends, sound-fault, sound-then}
 use Rattle.words.proofs.Tests.{both-true}
 use Rattle.read_packets.specs.Packets.{repeated, dataBytes, pixels, packetOf, packetAt, afterPacket, packets}
@@ -70,6 +71,37 @@ repeated-pair l i p q h e =
     let a : 2 * (i + 1) ≡ suc (suc (2 * i)) = omega arith in
     let b : 2 * i + 1 ≡ suc (2 * i) = omega arith in
     rw (a, b, add-one i) (set-pair l (2 * i) p q (omega arith) ∙ ap (λ (x : List ℕ). x ++ (p ∷ (q ∷ []))) e ∙ repeated-more i (p ∷ (q ∷ [])))
+
+-- two of them as one word
+
+low-byte : (x low high : ℕ) → low < 256 → x ≡ low + 256 * high → (x % 256 ≡ low) × (x / 256 ≡ high)
+low-byte x low high h e = (omega arith, omega arith)
+
+pub pairs-word : (p q m : ℕ) → p < 256 → q < 256 → m ≡ p + 256 * q → le32 (m + 65536 * m) [] ≡ p ∷ (q ∷ (p ∷ (q ∷ [])))
+pairs-word p q m h k e =
+    let x = m + 65536 * m in
+    let a = low-byte x p (q + 256 * m) h (omega arith) in
+    let b = low-byte (x / 256) q m k (a .1) in
+    let c = low-byte (x / 256 / 256) p q h (b .1 ∙ e) in
+    let d = low-byte (x / 256 / 256 / 256) q 0 k (c .1 ∙ sym (add-zero q)) in
+    rw (a .0, b .0, c .0, d .0)
+
+-- two to four of them: the first two, and then the last two
+pub few-pairs : (l v : List ℕ) (n p q : ℕ) → v ≡ p ∷ (q ∷ (p ∷ (q ∷ []))) → length l ≡ 2 * n → 2 ≤ n → n ≤ 4 → put (put l 0 v) (2 * n - 4) v ≡ repeated n (p ∷ (q ∷ []))
+unfolding repeated
+few-pairs l v n p q e s h k =
+    let four : length v ≡ 4 = ap length e in
+    let front = ap (take (2 * n - 4)) (put-front l v) ∙ take-append-le (2 * n - 4) v (drop (length v) l) (omega arith) in
+    let back = drop-of-length-le (put l 0 v) {i = 2 * n - 4 + length v} (omega (arith, length-put l 0 v (omega arith))) in
+    ap₂ (λ (x y : List ℕ). x ++ (v ++ y)) front back ∙ ap (λ (x : List ℕ). take (2 * n - 4) x ++ (x ++ [])) e ∙ by-count n h k
+  where
+    by-count : (n : ℕ) → 2 ≤ n → n ≤ 4 → take (2 * n - 4) (p ∷ (q ∷ (p ∷ (q ∷ [])))) ++ (p ∷ (q ∷ (p ∷ (q ∷ [])))) ≡ repeated n (p ∷ (q ∷ []))
+    by-count zero h k = absurd (omega arith)
+    by-count (suc zero) h k = absurd (omega arith)
+    by-count (suc (suc zero)) h k = refl
+    by-count (suc (suc (suc zero))) h k = refl
+    by-count (suc (suc (suc (suc zero)))) h k = refl
+    by-count (suc (suc (suc (suc (suc n))))) h k = absurd (omega arith)
 
 -- at most 128 pixels or pairs
 pub units-small : (unit n : ℕ) → unit ≤ 2 → n ≤ 128 → unit * n ≤ 256
@@ -169,7 +201,7 @@ module _ (unit w : ℕ) (b : List ℕ) (at x : ℕ) where
 
 -- a packet that copies one pair: one of type 1
 
-pub one-pair : (unit t : ℕ) → onePair unit t ≡ true → (unit ≡ 2) × (t ≡ 1)
+one-pair : (unit t : ℕ) → onePair unit t ≡ true → (unit ≡ 2) × (t ≡ 1)
 unfolding onePair
 one-pair unit t e = let p = both-true (eqb unit 2) (eqb t 1) e in (eqb-true unit 2 (p .0), eqb-true t 1 (p .1))
 
@@ -183,17 +215,19 @@ one-pair-is unit t h = simp (eq-eqb unit 2 h)
 
 -- its two pixels, of two bytes
 
-pub pair-length : (unit t : ℕ) → unit ≡ 2 → t ≡ 1 → unit * magnitude t ≡ 2
+pair-length : (unit t : ℕ) → unit ≡ 2 → t ≡ 1 → unit * magnitude t ≡ 2
 pair-length unit t u e = copied-pixels unit t 1 (sym e) (omega arith) ∙ ap (λ (k : ℕ). k * 1) u
 
-pub pair-bytes : (unit t : ℕ) → unit ≡ 2 → t ≡ 1 → dataBytes unit t ≡ 2
+pair-bytes : (unit t : ℕ) → unit ≡ 2 → t ≡ 1 → dataBytes unit t ≡ 2
 pair-bytes unit t u e = copied-bytes unit t 1 (sym e) (omega arith) ∙ ap (λ (k : ℕ). k * 1) u
 
-pub pair-pixels : (unit : ℕ) (b : List ℕ) (at t : ℕ) → unit ≡ 2 → t ≡ 1 → at + 2 ≤ length b → pixels unit b at t ≡ getD b at 0 ∷ (getD b (at + 1) 0 ∷ [])
-pair-pixels unit b at t u e h =
-    pixels-copy unit b at t (omega arith)
-    ∙ ap₂ (λ (i j : ℕ). take (i * j) (drop at b)) u e
-    ∙ ap (take 2) (drop-cons b at 0 (omega arith))
+pub pair-pixels : (unit : ℕ) (b : List ℕ) (at t : ℕ) → unit ≡ 2 → t ≡ 1 → pixels unit b at t ≡ take 2 (drop at b)
+pair-pixels unit b at t u e = pixels-copy unit b at t (omega arith) ∙ ap₂ (λ (i j : ℕ). take (i * j) (drop at b)) u e
+
+-- two bytes of a body
+pub pair-taken : (b : List ℕ) (at : ℕ) → at + 2 ≤ length b → take 2 (drop at b) ≡ getD b at 0 ∷ (getD b (at + 1) 0 ∷ [])
+pair-taken b at h =
+    ap (take 2) (drop-cons b at 0 (omega arith))
     ∙ ap (λ (l : List ℕ). getD b at 0 ∷ take 1 l) (ap (λ (n : ℕ). drop n b) (sym (add-one at)) ∙ drop-cons b (at + 1) 0 (omega arith))
 
 -- where it lies whole in the body and in the row
@@ -287,35 +321,14 @@ module _ (unit w : ℕ) (b : List ℕ) where
   packets-more n row at x h t to next end q =
       packets-step n row at x h ∙ ap (λ (p : PacketStep). afterPacket unit w b row at p (λ at′ x′. packets unit w b (n - 1) row at′ x′)) q
 
-  -- what a whole packet writes, and then the packets after it
-  pub packets-played : (n row at x : ℕ) → 0 < n → (t to next end : ℕ) → packetAt unit w b at x ≡ Pixels t to next end → (d : List ℕ)
-      → after d (packets unit w b n row at x) ≡ after (put d (row * w + to) (pixels unit b (at + 2) t)) (packets unit w b (n - 1) row end next)
-  unfolding applied
-  packets-played n row at x h t to next end q d = ap (after d) (packets-more n row at x h t to next end q)
-
-  -- of packets that meet no fault the first is whole
-
-  pub record First (at x : ℕ) : Type 0 where
-    pub whole : packetAt unit w b at x ≡ Pixels (getD b (at + 1) 0) (x + getD b at 0) (x + getD b at 0 + unit * magnitude (getD b (at + 1) 0)) (at + 2 + dataBytes unit (getD b (at + 1) 0))
-    pub in-row : x + getD b at 0 + unit * magnitude (getD b (at + 1) 0) ≤ w
-    pub in-body : at + 2 + dataBytes unit (getD b (at + 1) 0) ≤ length b
-
-  pub packets-first : (n row at x : ℕ) → 0 < n → Ended (packets unit w b n row at x .verdict) → First at x
-  packets-first n row at x h e =
-      go (leb (at + 2) (length b)) (leb (past unit w b at x) w) (leb (at + 2 + dataBytes unit (type unit w b at x)) (length b)) refl refl refl
-    where
-      met : {C : Type 0} {r : Refusal} → packetAt unit w b at x ≡ Fault r → C
-      met q = absurd (subst (λ (k : Walk). Ended (k .verdict)) (packets-stop n row at x h _ q) e)
-
-      go : (p q r : Bool) → leb (at + 2) (length b) ≡ p → leb (past unit w b at x) w ≡ q
-          → leb (at + 2 + dataBytes unit (type unit w b at x)) (length b) ≡ r → First at x
-      go true true true i j k =
-          let m = leb-true _ _ j in
-          let l = leb-true _ _ k in
-          record { whole = packet-whole unit w b at x (leb-true _ _ i) m l; in-row = m; in-body = l }
-      go true true false i j k = met (packet-short unit w b at x (leb-true _ _ i) (leb-true _ _ j) (leb-false _ _ k))
-      go true false r i j k = met (packet-past unit w b at x (leb-true _ _ i) (leb-false _ _ j))
-      go false q r i j k = met (packet-cut unit w b at x (leb-false _ _ i))
+  -- a whole packet, which leaves e of d, and then the packets after it
+  pub packets-on : (p : Pass) (d e : List ℕ) (n row at x : ℕ) → 0 < n → (t to next end : ℕ) → packetAt unit w b at x ≡ Pixels t to next end
+      → e ≡ stored p d (row * w + to) (pixels unit b (at + 2) t)
+      → seen p (packets unit w b n row at x) d ≡ seen p (packets unit w b (n - 1) row end next) e
+  packets-on p d e n row at x h t to next end q s =
+      ap (λ (k : Walk). seen p k d) (packets-more n row at x h t to next end q)
+      ∙ seen-then p (row * w + to) (pixels unit b (at + 2) t) d (packets unit w b (n - 1) row end next)
+      ∙ ap (seen p (packets unit w b (n - 1) row end next)) (sym s)
 
   -- the row doesn't bear on how packets come out
   pub packets-row : (n row at x : ℕ) → packets unit w b n row at x .verdict ≡ packets unit w b n 0 at x .verdict

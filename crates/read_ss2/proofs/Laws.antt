@@ -8,21 +8,21 @@ use native.Mathlib.Numerals.{sub-one}
 use native.Mathlib.Omega.{arith}
 use borrow.Author.Tests.{le-leb, lt-leb, leb-true, leb-false, ltb-true}
 use lib.Dec.{leb, ltb}
-use lib.ListN.{length, set, getD, length-set}
+use lib.ListN.{length, getD}
 use Rattle.words.specs.Words.{require_else_then_, u16At}
-use Rattle.words.specs.Writes.{applied}
 use Rattle.words.proofs.Tests.{by-test}
-use Rattle.words.proofs.Laws.{put-one, row-in, applied-append}
+use Rattle.words.proofs.Laws.{row-in}
 use Rattle.answer.specs.declared.Refusal.{Refusal}
 use Rattle.answer.specs.declared.Refusal.the-variants.{BodyEnds, PastHeight}
 use Rattle.walk.specs.declared.Verdict.{Verdict}
 use Rattle.walk.specs.declared.Verdict.the-variants as verdict
-use Rattle.walk.specs.Walk.{Walk, Ended, ends, fault, onward}
-use Rattle.walk.proofs.Laws.{after, VerdictIn}
+use Rattle.walk.specs.declared.Pass.{Pass}
+use Rattle.walk.specs.Walk.{Walk, ends, fault, onward, wrote}
+use Rattle.walk.proofs.Laws.{VerdictIn, wrote-none, wrote-one, wrote-then, seen, seen-onward, seen-stopped}
 use Rattle.walk.proofs.Sound.{Sound, sound-ends, sound-fault, sound-then, sound-onward}
 use Rattle.read_packets.specs.Packets.{packets}
-use Rattle.read_packets.proofs.Laws.{packets-row, packets-sound}
-use Rattle.read_ss2.specs.Ss2.{byHigh, wordOf, countAfter, lastAt, lineOf, lineAt, lineWalk, afterLine, lines, ss2}
+use Rattle.read_packets.proofs.Laws.{packets-sound}
+use Rattle.read_ss2.specs.Ss2.{byHigh, wordOf, countAfter, lastAt, lineOf, lineAt, lastFirst, lineWalk, afterLine, lines, ss2}
 use Rattle.read_ss2.specs.declared.Word.{Word}
 use Rattle.read_ss2.specs.declared.Word.the-variants.{Count, Bad, Last, Skip}
 use Rattle.read_ss2.specs.declared.LastPixel.{LastPixel}
@@ -136,22 +136,15 @@ module _ (h : ℕ) (b : List ℕ) (at row : ℕ) where
 
 -- a line's last pixel and packets
 
--- d with the last pixel of row row set, if the line sets it
-abbrev pub dotted : ℕ → ℕ → LastPixel → List ℕ → List ℕ
-dotted w row Kept d = d
-dotted w row (Set v) d = set d (row * w + (w - 1)) v
-
-pub length-dotted : (w row : ℕ) (last : LastPixel) (d : List ℕ) → length (dotted w row last d) ≡ length d
-length-dotted w row Kept d = refl
-length-dotted w row (Set v) d = simp length-set
-
 module _ (w : ℕ) (b : List ℕ) (row : ℕ) where
-  pub line-played : (last : LastPixel) (count from : ℕ) (d : List ℕ) → 1 ≤ w → row * w + w ≤ length d
-      → after d (lineWalk w b row last count from) ≡ after (dotted w row last d) (packets 2 w b count row from 0)
-  unfolding lineWalk applied
-  line-played Kept count from d k i = refl
-  line-played (Set v) count from d k i =
-      ap (λ (x : List ℕ). after x (packets 2 w b count row from 0)) (sym (put-one d (row * w + (w - 1)) v (omega arith)))
+  -- it writes its last pixel, and then what its packets write
+  pub line-wrote : (p : Pass) (last : LastPixel) (count from : ℕ) (d : List ℕ)
+      → wrote p (lineWalk w b row last count from .writes) d ≡ wrote p (packets 2 w b count row from 0 .writes) (wrote p (lastFirst w row last (ends 0) .writes) d)
+  unfolding lineWalk
+  line-wrote p Kept count from d = ap (wrote p (packets 2 w b count row from 0 .writes)) (sym (wrote-none p d))
+  line-wrote p (Set v) count from d =
+      wrote-then p (row * w + (w - 1)) (v ∷ []) d (packets 2 w b count row from 0)
+      ∙ ap (wrote p (packets 2 w b count row from 0 .writes)) (sym (wrote-one p (row * w + (w - 1)) (v ∷ []) d))
 
   -- it comes out as its packets do
   pub line-packets : (last : LastPixel) (count from : ℕ) → lineWalk w b row last count from .verdict ≡ packets 2 w b count row from 0 .verdict
@@ -159,13 +152,9 @@ module _ (w : ℕ) (b : List ℕ) (row : ℕ) where
   line-packets Kept count from = refl
   line-packets (Set v) count from = refl
 
-  -- neither the row nor the last pixel bears on how it comes out
-  pub line-verdict : (last : LastPixel) (count from : ℕ) → lineWalk w b row last count from .verdict ≡ packets 2 w b count 0 from 0 .verdict
-  line-verdict last count from = line-packets last count from ∙ packets-row 2 w b count row from 0
-
   -- its data ends within the body, also where there is no column
   pub line-ends : (last : LastPixel) (count from : ℕ) → from ≤ length b → VerdictIn b (lineWalk w b row last count from .verdict)
-  line-ends last count from k = subst (VerdictIn b) (sym (line-verdict last count from)) (packets-sound 2 w b 1 count 0 from 0 k (omega arith) .ends-in)
+  line-ends last count from k = subst (VerdictIn b) (sym (line-packets last count from)) (packets-sound 2 w b (row + 1) count row from 0 k (omega arith) .ends-in)
 
   -- it writes bytes of the body, within a picture of h rows
   pub line-sound : (h : ℕ) (last : LastPixel) (count from : ℕ) → PixelByte last → from ≤ length b → 1 ≤ w → row < h → Sound b (w * h) (lineWalk w b row last count from)
@@ -225,20 +214,19 @@ module _ (w h : ℕ) (b : List ℕ) where
           lines-as n row at some (Row last count from) q
           ∙ ap₂ (λ (x : Verdict) (y : ℕ). onward (lineWalk w b row last count from .writes) x (λ end. lines w h b y 0 (n - 1) (row + 1) end)) e r
 
-      -- of lines that meet no fault the first meets none
-      pub lines-first : Ended (linesFrom w h b n row at .verdict) → Ended (lineWalk w b row last count from .verdict)
-      lines-first e = go (lineWalk w b row last count from .verdict) refl
-        where
-          go : (v : Verdict) → lineWalk w b row last count from .verdict ≡ v → Ended v
-          go (verdict.Ends end) i = tt
-          go (verdict.Fault r) i = subst (λ (k : Walk). Ended (k .verdict)) (lines-row (verdict.Fault r) i) e
+      -- a pass over the first line leaves e of d: where it ended, and the lines after it; where it met a fault
+      module _ (p : Pass) (d e : List ℕ) (left : e ≡ wrote p (lineWalk w b row last count from .writes) d) where
+        pub lines-on : (end : ℕ) → lineWalk w b row last count from .verdict ≡ verdict.Ends end
+            → seen p (linesFrom w h b n row at) d ≡ seen p (linesFrom w h b (n - 1) (row + 1) end) e
+        lines-on end v =
+            ap (λ (k : Walk). seen p k d) (lines-row _ refl)
+            ∙ seen-onward p (lineWalk w b row last count from) (λ end. linesFrom w h b (n - 1) (row + 1) end) d e left end v
 
-      -- what a line that ends writes, and then the lines after it
-      pub lines-played : (d : List ℕ) (end : ℕ) → lineWalk w b row last count from .verdict ≡ verdict.Ends end
-          → after d (linesFrom w h b n row at) ≡ after (after d (lineWalk w b row last count from)) (linesFrom w h b (n - 1) (row + 1) end)
-      lines-played d end e =
-          ap (after d) (lines-row (verdict.Ends end) e)
-          ∙ applied-append (lineWalk w b row last count from .writes) (linesFrom w h b (n - 1) (row + 1) end .writes) d
+        pub lines-stopped : (f : Refusal) → lineWalk w b row last count from .verdict ≡ verdict.Fault f
+            → seen p (linesFrom w h b n row at) d ≡ (verdict.Fault f, e)
+        lines-stopped f v =
+            ap (λ (k : Walk). seen p k d) (lines-row _ refl)
+            ∙ seen-stopped p (lineWalk w b row last count from) (λ end. linesFrom w h b (n - 1) (row + 1) end) d e left f v
 
   -- their data ends within the body, and they write bytes of it, within the picture
   pub lines-sound : (r skip n row at : ℕ) → at ≤ length b → 1 ≤ w → Sound b (w * h) (lines w h b r skip n row at)

@@ -1,14 +1,11 @@
 // Reading kind 7, SS2: document 01, "Frames, chunks and rows".
-// A check writes nothing; a play does the writes of a body that the check accepts.
 ghost use mathlib.Core.Path.{_≡_};
 ghost use Prim.Native.Nat.{_+_, _*_, _≤_};
 ghost use lib.ListN.{length};
 ghost use Rattle.words.specs.Words.{u16At};
-ghost use Rattle.words.specs.Writes.{applied};
 ghost use Rattle.format.specs.Limits.{Wide, High};
-ghost use Rattle.walk.specs.Walk.{Ended};
-ghost use Rattle.walk.specs.declared.Verdict.the-variants.{Ends};
-ghost use Rattle.read_ss2.specs.Ss2.{wordOf, lastAt, lineAt, lineWalk, ss2};
+ghost use Rattle.walk.specs.Walk.{ends, wrote, Room};
+ghost use Rattle.read_ss2.specs.Ss2.{wordOf, lastAt, lineAt, lastFirst, lineWalk, ss2};
 
 // What a word is, by its two high bits.
 pub enum Word {
@@ -111,8 +108,25 @@ fn line_at(body: &[u8], at: usize, row: usize, height: usize) -> Line
     Line::Fault(answer::Refusal::PastHeight)
 }
 
-// Plays a line on row row: its last pixel, then its packets. Returns the offset where its data ends.
-fn play_line(
+// Stores the last pixel of row row, if the line sets it.
+fn put_last(picture: &mut [u8], last: LastPixel, width: usize, row: usize, pass: walk::Pass)
+    requires { ⌜ (1 ≤ width) × Wide width × High row × Room pass (row * width + width) (now picture) ⌝ }
+    ensures { λ _. ⌜ now (picture .exit) ≡ wrote pass (lastFirst width row last (ends 0) .writes) (now (picture .entry)) ⌝ }
+{
+    match pass {
+        walk::Pass::Dry => {}
+        walk::Pass::Wet => match last {
+            LastPixel::Kept => {}
+            LastPixel::Set(pixel) => {
+                let place = row * width + (width - 1);
+                picture[place] = pixel;
+            }
+        },
+    }
+}
+
+// Walks over a line on row row: its last pixel, then its packets.
+fn walk_line(
     picture: &mut [u8],
     body: &[u8],
     last: LastPixel,
@@ -120,26 +134,27 @@ fn play_line(
     from: usize,
     width: usize,
     row: usize,
-) -> usize
-    requires { ⌜ (1 ≤ width) × Wide width × (row * width + width ≤ length (now picture))
-        × Ended (lineWalk width (now body) row last count from .verdict) ⌝ }
-    ensures verdict { λ r. ⌜ lineWalk width (now (body .entry)) row last count from .verdict ≡ Ends r ⌝ }
-    ensures writes { λ _. ⌜ now (picture .exit) ≡ applied (lineWalk width (now (body .entry)) row last count from .writes) (now (picture .entry)) ⌝ }
+    pass: walk::Pass,
+) -> walk::Verdict
+    requires { ⌜ (from ≤ length (now body)) × (1 ≤ width) × Wide width × High row × Room pass (row * width + width) (now picture) ⌝ }
+    ensures verdict { λ r. ⌜ r ≡ lineWalk width (now (body .entry)) row last count from .verdict ⌝ }
+    ensures writes { λ _. ⌜ now (picture .exit) ≡ wrote pass (lineWalk width (now (body .entry)) row last count from .writes) (now (picture .entry)) ⌝ }
 {
-    match last {
-        LastPixel::Kept => {}
-        LastPixel::Set(pixel) => {
-            let place = row * width + (width - 1);
-            picture[place] = pixel;
-        }
-    }
-    read_packets::play_packets(picture, body, count, from, 0, width, row, 2)
+    put_last(picture, last, width, row, pass);
+    read_packets::walk_packets(picture, body, count, from, width, row, 2, pass)
 }
 
-// Checks a body, for a picture of this width and height.
-pub fn check_ss2(body: &[u8], width: usize, height: usize) -> walk::Verdict
-    requires { ⌜ Wide width × High height ⌝ }
-    ensures { λ r. ⌜ r ≡ ss2 width height (now (body .entry)) .verdict ⌝ }
+// Walks over a body, for a picture of this width and height.
+pub fn walk_ss2(
+    picture: &mut [u8],
+    body: &[u8],
+    width: usize,
+    height: usize,
+    pass: walk::Pass,
+) -> walk::Verdict
+    requires { ⌜ (1 ≤ width) × Wide width × High height × Room pass (width * height) (now picture) ⌝ }
+    ensures verdict { λ r. ⌜ r ≡ ss2 width height (now (body .entry)) .verdict ⌝ }
+    ensures writes { λ _. ⌜ now (picture .exit) ≡ wrote pass (ss2 width height (now (body .entry)) .writes) (now (picture .entry)) ⌝ }
 {
     if body.len() < 2 {
         return walk::Verdict::Fault(answer::Refusal::BodyEnds);
@@ -156,51 +171,19 @@ pub fn check_ss2(body: &[u8], width: usize, height: usize) -> walk::Verdict
                 row += rows;
                 at += 2;
             }
-            Line::Row {
-                last: _,
-                count,
-                from,
-            } => match read_packets::check_packets(body, count, from, 0, width, 2) {
-                walk::Verdict::Fault(e) => {
-                    return walk::Verdict::Fault(e);
+            Line::Row { last, count, from } => {
+                match walk_line(picture, body, last, count, from, width, row, pass) {
+                    walk::Verdict::Fault(e) => {
+                        return walk::Verdict::Fault(e);
+                    }
+                    walk::Verdict::Ends(end) => {
+                        at = end;
+                        row += 1;
+                        left -= 1;
+                    }
                 }
-                walk::Verdict::Ends(end) => {
-                    at = end;
-                    row += 1;
-                    left -= 1;
-                }
-            },
+            }
         }
     }
     walk::Verdict::Ends(at)
-}
-
-// Does the writes of a body on a picture of this width and height.
-pub fn play_ss2(picture: &mut [u8], body: &[u8], width: usize, height: usize)
-    requires { ⌜ (1 ≤ width) × Wide width × High height × (width * height ≤ length (now picture))
-        × Ended (ss2 width height (now body) .verdict) ⌝ }
-    ensures { λ _. ⌜ now (picture .exit) ≡ applied (ss2 width height (now (body .entry)) .writes) (now (picture .entry)) ⌝ }
-{
-    if body.len() < 2 {
-        return;
-    }
-    let mut left = words::u16_at(body, 0);
-    let mut at = 2;
-    let mut row = 0;
-    while left > 0 {
-        match line_at(body, at, row, height) {
-            Line::Fault(_) => {
-                return;
-            }
-            Line::Down(rows) => {
-                row += rows;
-                at += 2;
-            }
-            Line::Row { last, count, from } => {
-                at = play_line(picture, body, last, count, from, width, row);
-                row += 1;
-                left -= 1;
-            }
-        }
-    }
 }

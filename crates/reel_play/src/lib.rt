@@ -33,15 +33,17 @@ pub fn one_frame(
 {
     match chunks::step_at(b, layout, at) {
         Next::Fault(e, place) => Ran::Stopped(e, place),
-        Next::Frame { from, end } => match read_frame::check_frame(&b[from..end], size) {
+        Next::Frame { from, end } => match read_frame::play_frame(
+            picture,
+            palette,
+            &b[from..end],
+            size,
+        ) {
             Answer::Refused(e, place) => Ran::Stopped(e, from + place),
-            Answer::Done => {
-                read_frame::play_frame(picture, palette, &b[from..end], size);
-                Ran::To {
-                    last: from,
-                    next: end,
-                }
-            }
+            Answer::Done => Ran::To {
+                last: from,
+                next: end,
+            },
         },
     }
 }

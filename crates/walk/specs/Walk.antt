@@ -1,10 +1,14 @@
 -- What a body says: its writes up to the first fault, and how it comes out.
-use Prim.Native.Nat.{ℕ}
+use mathlib.Core.Path.{_≡_}
+use Prim.Native.Nat.{ℕ, _≤_}
 use mathlib.Core.List.{List, [], _∷_, _++_}
-use Rattle.words.specs.Writes.{Write}
+use lib.ListN.{length}
+use Rattle.words.specs.Writes.{Write, put, applied}
 use Rattle.answer.specs.declared.Refusal.{Refusal}
 use Rattle.walk.specs.declared.Verdict.{Verdict}
 use Rattle.walk.specs.declared.Verdict.the-variants.{Ends, Fault}
+use Rattle.walk.specs.declared.Pass.{Pass}
+use Rattle.walk.specs.declared.Pass.the-variants.{Dry, Wet}
 
 -- The writes met before the first fault; that fault, or the offset where the data ended.
 pub record Walk : Type 0 where
@@ -32,7 +36,16 @@ onward ws (Fault e) k = record { writes = ws; verdict = Fault e }
 abbrev pub followed : Walk → (ℕ → Walk) → Walk
 followed w k = onward (w .writes) (w .verdict) k
 
--- no fault was met: what the playing pass requires and the checking pass shows
-abbrev pub Ended : Verdict → Type 0
-Ended (Ends at) = Unit {0}
-Ended (Fault e) = ⊥
+-- what a pass leaves of d: the bytes v stored from index at on, or nothing changed
+abbrev pub stored : Pass → List ℕ → ℕ → List ℕ → List ℕ
+stored Dry d at v = d
+stored Wet d at v = put d at v
+
+-- the same, of the writes ws, done in order
+abbrev pub wrote : Pass → List Write → List ℕ → List ℕ
+wrote Dry ws d = d
+wrote Wet ws d = applied ws d
+
+-- a wet pass finds n bytes in d
+abbrev pub Room : Pass → ℕ → List ℕ → Type 0
+Room pass n d = pass ≡ Wet → n ≤ length d

@@ -1,4 +1,4 @@
-// What a reader says of a body: how its walk comes out.
+// What a reader says of a body: how its walk comes out; and what a pass over it does.
 
 // How a walk over a body comes out: the offset where its data ended, or its first fault.
 pub enum Verdict {
@@ -6,8 +6,8 @@ pub enum Verdict {
     Fault(answer::Refusal),
 }
 
-// A packet that was played: how many pixels it has, and how many bytes of data.
-pub struct PacketSize {
-    pub pixels: usize,
-    pub bytes: usize,
+// A dry pass over a body writes nothing; a wet one does each write as it meets it, up to the first fault.
+pub enum Pass {
+    Dry,
+    Wet,
 }

@@ -5,32 +5,32 @@ use Rattle.house_frame.specs.House.{houseFrame}
 use Rattle.read_frame.specs.Frame.{frame}
 use Rattle.words.specs.Writes.{applied}
 use Prim.Native.Nat.{ℕ}
+use native.Mathlib.Omega.{arith}
 use mathlib.Core.List.{List}
 use mathlib.Core.Path.{ap, ap₂, _∙_}
 use borrow.Author.Needs.{needs}
 use Rattle.house_rewrite.proofs.rewrite_accepted.Statement.{statement}
 use Rattle.house_rewrite.proofs.rewrite_accepted.Tie as tie
 
-play-frame-requires : tie.Need-play-frame-requires
-play-frame-requires c κs =
+walk-frame-requires : tie.Need-walk-frame-requires
+walk-frame-requires c κs =
     let p = c .before .before .before .before .before .before .before .before .before .before .before .before .before .before .before .before .pre in
-    let s = p .0 .picture in
-    (record { picture = record { size = s .size; pixels = c .before .before .before .before .before .before .before .before .copy .kept .0 ∙ s .pixels }; colours = c .before .before .before .before .copy2 .kept .0 ∙ p .0 .colours }, p .2)
+    (p .0 .picture .size, (λ e. omega (arith, c .before .before .before .before .before .before .before .before .copy .kept .0, p .0 .picture .pixels)), λ e. omega (arith, c .before .before .before .before .copy2 .kept .0, p .0 .colours))
 
 write-house-requires : tie.Need-write-house-requires
 write-house-requires c κs =
     let p = c .before .before .before .before .before .before .before .before .before .before .before .before .before .before .before .before .before .before .before .before .before .before .before .before .pre in
     let s = p .0 .picture in
-    let k = c .before .before .before .before .before .before .before .play-frame .kept in
+    let k = c .before .before .before .before .before .before .before .walk-frame .kept in
     (p .1, record { picture = record { size = s .size; pixels = k .0 ∙ c .before .before .before .before .before .before .before .before .before .before .before .before .before .before .before .before .copy .kept .0 ∙ s .pixels }; colours = k .1 .0 ∙ c .before .before .before .before .before .before .before .before .before .before .before .before .copy2 .kept .0 ∙ p .0 .colours })
 
 returns : tie.Need-returns
 returns c =
     let a = c .before .before .before .before .before .before .before .before .before .before .before .before .before .before .before .before .before .before .before .before .before .before .before .before .before .before .before .args in
     let f = frame (a .size) (a .bytes .now) in
-    let play = c .before .before .before .before .before .before .before .before .before .before .play-frame .ensures in
-    let picture = play .0 ∙ ap (applied (f .pixels)) (c .before .before .before .before .before .before .before .before .before .before .before .before .before .before .before .before .before .before .before .copy .ensures) in
-    let palette = play .1 ∙ ap (applied (f .colours)) (c .before .before .before .before .before .before .before .before .before .before .before .before .before .before .before .copy2 .ensures) in (
+    let play = c .before .before .before .before .before .before .before .before .before .before .walk-frame .ensures in
+    let picture = play .1 .0 ∙ ap (applied (f .pixels)) (c .before .before .before .before .before .before .before .before .before .before .before .before .before .before .before .before .before .before .before .copy .ensures) in
+    let palette = play .1 .1 ∙ ap (applied (f .colours)) (c .before .before .before .before .before .before .before .before .before .before .before .before .before .before .before .copy2 .ensures) in (
       picture,
       (
         palette,
@@ -45,7 +45,7 @@ rewrite-accepted-spec =
     (tie.spec
     (λ c κs. search needs)
     (λ c κs. search needs)
-    play-frame-requires
+    walk-frame-requires
     write-house-requires
     (λ c. search needs)
     (λ c. search needs)

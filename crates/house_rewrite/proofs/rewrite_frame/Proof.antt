@@ -78,7 +78,7 @@ slice-aggregate-rewrite-accepted-4 : tie.Need-slice-aggregate-rewrite-accepted-4
 slice-aggregate-rewrite-accepted-4 c = sym (previous (c .before .before .before .before .before .before .before .before) .colours)
 
 rewrite-accepted-requires : tie.Need-rewrite-accepted-requires
-rewrite-accepted-requires c κs = (work (c .before .before .before .before .before .before .before .before), previous (c .before .before .before .before .before .before .before .before), sym (c .before .before .before .before .before .before .before .check-frame .ensures) ∙ c .before .before .before .before .before .enum-told .given .1)
+rewrite-accepted-requires c κs = (work (c .before .before .before .before .before .before .before .before), previous (c .before .before .before .before .before .before .before .before))
 
 returns-5 : tie.Need-returns-5
 returns-5 c =

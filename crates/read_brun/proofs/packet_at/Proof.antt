@@ -1,11 +1,10 @@
 -- `packet_at` meets its contract: each return is the case of the definition that its tests select, of a copy and of a repeat.
-use mathlib.Core.Path.{_≡_, sym}
-use Prim.Native.Nat.{_+_}
+use mathlib.Core.Path.{sym}
 use native.Mathlib.Omega.{arith}
 use borrow.Author.Needs.{needs}
 use lib.ListN.{getD}
 use Rattle.words.proofs.Laws.{magnitude-plus, magnitude-minus}
-use Rattle.read_brun.proofs.Laws.{data-repeat, data-copy, packet-cut, packet-zero, packet-past, packet-short, packet-whole}
+use Rattle.read_brun.proofs.Laws.{data-repeat, data-copy, packet-cut, packet-zero, packet-past, packet-short, packet-told}
 use Rattle.read_brun.proofs.packet_at.Statement.{statement}
 use Rattle.read_brun.proofs.packet_at.Tie as tie
 
@@ -27,7 +26,7 @@ returns-4 : tie.Need-returns-4
 returns-4 c =
     let m = magnitude-minus (getD (c .before .before .before .before .before .before .before .args .body .now) (c .before .before .before .before .before .before .before .args .at) 0) (omega arith) in
     let d = data-copy (getD (c .before .before .before .before .before .before .before .args .body .now) (c .before .before .before .before .before .before .before .args .at) 0) (omega arith) in
-    cc (packet-whole (c .before .before .before .before .before .before .before .args .body .now) (c .before .before .before .before .before .before .before .args .at) (c .before .before .before .before .before .before .before .args .left) (omega arith) (omega arith) (omega arith) (omega arith), c .before .before .wide .ensures .0)
+    packet-told (c .before .before .before .before .before .before .before .args .body .now) (c .before .before .before .before .before .before .before .args .at) (c .before .before .before .before .before .before .before .args .left) _ _ (omega arith) (omega arith) (omega arith) (omega arith) (omega arith) (omega arith)
 
 returns-5 : tie.Need-returns-5
 returns-5 c =
@@ -49,8 +48,7 @@ returns-8 : tie.Need-returns-8
 returns-8 c =
     let m = magnitude-plus (getD (c .before .before .before .before .before .before .before .before .args .body .now) (c .before .before .before .before .before .before .before .before .args .at) 0) (omega arith) in
     let d = data-repeat (getD (c .before .before .before .before .before .before .before .before .args .body .now) (c .before .before .before .before .before .before .before .before .args .at) 0) (omega arith) in
-    let e : c .before .before .before .before .before .before .before .before .args .at + 1 + 1 ≡ c .before .before .before .before .before .before .before .before .args .at + 2 = omega arith in
-    cc (packet-whole (c .before .before .before .before .before .before .before .before .args .body .now) (c .before .before .before .before .before .before .before .before .args .at) (c .before .before .before .before .before .before .before .before .args .left) (omega arith) (omega arith) (omega arith) (omega arith), c .before .before .before .wide2 .ensures .0)
+    packet-told (c .before .before .before .before .before .before .before .before .args .body .now) (c .before .before .before .before .before .before .before .before .args .at) (c .before .before .before .before .before .before .before .before .args .left) _ _ (omega arith) (omega arith) (omega arith) (omega arith) (omega arith) (omega arith)
 
 pub packet-at-spec : {M : Type 1} → statement M
 packet-at-spec =

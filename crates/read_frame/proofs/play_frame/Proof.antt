@@ -1,45 +1,50 @@
--- `play_frame` meets its contract: a header at fault writes nothing, any other leads to its sub-chunks.
-use Rattle.read_frame.proofs.Laws.{pixelsOn, coloursOn, frame-as}
-use Rattle.chunks.proofs.Headers.{frame-in}
-use Rattle.read_frame.specs.Frame.{FrameWalk, subChunks}
-use Rattle.words.proofs.Laws.{span-length}
-use Rattle.words.specs.Writes.{applied}
-use lib.ListN.{take}
-use native.Mathlib.Omega.{arith}
-use Prim.Native.Nat.{ℕ, _-_}
-use mathlib.Core.Path.{_≡_, ap, _∙_, sym}
+-- Both branches play the sub-chunks alike; how many bytes are in packets decides which is taken, and nothing else.
+use mathlib.Core.Path.{ap, refl, _∙_, sym}
 use borrow.Author.Needs.{needs}
+use Rattle.chunks.proofs.Headers.{frame-in}
+use Rattle.state.specs.State.{state}
+use Rattle.read_frame.specs.Frame.{FrameWalk}
+use Rattle.read_frame.specs.Reading.{settled}
+use Rattle.read_frame.proofs.Laws.{frame-as, frame-part, part-long}
 use Rattle.read_frame.proofs.play_frame.Statement.{statement}
 use Rattle.read_frame.proofs.play_frame.Tie as tie
 
-part-play-chunks-end : tie.Need-part-play-chunks-end
-part-play-chunks-end c = frame-in _ _ (sym (c .before .before .before .before .before .frame-header .ensures) ∙ c .before .before .before .count .given .1) .1
+part-packet-bytes-end : tie.Need-part-packet-bytes-end
+part-packet-bytes-end c = frame-in _ _ (sym (c .before .before .before .frame-header .ensures) ∙ c .before .count .given .1) .1
 
-play-chunks-requires : tie.Need-play-chunks-requires
-play-chunks-requires c κs =
-    let a = c .before .before .before .before .before .before .before .before .before .before .args in
-    let s = c .before .before .before .before .count .given .0 .1 .0 in
-    let i = frame-in (a .b .now) _ (sym (c .before .before .before .before .before .before .frame-header .ensures) ∙ c .before .before .before .before .count .given .1) in
-    let z : s - 0 ≡ s = omega arith in
-    let k = ap (λ (n : ℕ). subChunks (a .size) (take n (a .b .now)) (c .before .before .before .before .count .given .0 .0) 16) z
-    ∙ sym (frame-as (a .size) (a .b .now) _ (sym (c .before .before .before .before .before .before .frame-header .ensures) ∙ c .before .before .before .before .count .given .1)) in
-    (omega (arith, span-length (a .b .now) 0 s s (i .1) (omega arith), i .0), c .before .before .before .before .before .before .before .before .before .before .pre .0, ap (λ (f : FrameWalk). f .answer) k ∙ c .before .before .before .before .before .before .before .before .before .before .pre .1)
+packet-bytes-requires : tie.Need-packet-bytes-requires
+packet-bytes-requires c κs = let a = c .before .before .before .before .before .before .before .before .args in part-long (a .size) (a .b .now) _ _ (sym (c .before .before .before .before .frame-header .ensures) ∙ c .before .before .count .given .1)
+
+part-play-twice-end : tie.Need-part-play-twice-end
+part-play-twice-end c = frame-in _ _ (sym (c .before .before .before .before .before .before .before .before .frame-header .ensures) ∙ c .before .before .before .before .before .before .count .given .1) .1
+
+play-twice-requires : tie.Need-play-twice-requires
+play-twice-requires c κs = let a = c .before .before .before .before .before .before .before .before .before .before .before .before .before .args in (part-long (a .size) (a .b .now) _ _ (sym (c .before .before .before .before .before .before .before .before .before .frame-header .ensures) ∙ c .before .before .before .before .before .before .before .count .given .1), c .before .before .before .before .before .before .before .before .before .before .before .before .before .pre)
 
 returns : tie.Need-returns
-unfolding applied
 returns c =
-    let a = c .before .before .before .before .before .before .args in
-    let k = sym (frame-as (a .size) (a .b .now) _ (sym (c .before .before .frame-header .ensures) ∙ c .enum-told .given .1)) in
-    (ap (pixelsOn (a .picture .now)) k, ap (coloursOn (a .palette .now)) k)
+    let a = c .before .before .before .before .before .before .before .before .before .before .before .before .before .before .before .before .before .before .args in
+    let x = c .before .before .before .before .play-twice in
+    let f = frame-part (a .size) (a .b .now) _ _ (sym (c .before .before .before .before .before .before .before .before .before .before .before .before .before .before .frame-header .ensures) ∙ c .before .before .before .before .before .before .before .before .before .before .before .before .count .given .1) in
+    (x .ensures .0 ∙ sym (ap (λ (y : FrameWalk). y .answer) f), x .ensures .1 ∙ sym (ap (λ (y : FrameWalk). settled y (x .result) (state (a .picture .now) (a .palette .now))) f))
+
+part-play-saved-end : tie.Need-part-play-saved-end
+part-play-saved-end c = frame-in _ _ (sym (c .before .before .before .before .before .before .before .before .frame-header .ensures) ∙ c .before .before .before .before .before .before .count .given .1) .1
+
+play-saved-requires : tie.Need-play-saved-requires
+play-saved-requires c κs = let a = c .before .before .before .before .before .before .before .before .before .before .before .before .before .args in (part-long (a .size) (a .b .now) _ _ (sym (c .before .before .before .before .before .before .before .before .before .frame-header .ensures) ∙ c .before .before .before .before .before .before .before .count .given .1), c .before .before .before .before .before .before .before .before .before .before .before .before .before .pre)
 
 returns-2 : tie.Need-returns-2
 returns-2 c =
-    let a = c .before .before .before .before .before .before .before .before .before .before .before .before .before .before .before .args in
-    let s = c .before .before .before .before .before .before .before .before .before .count .given .0 .1 .0 in
-    let z : s - 0 ≡ s = omega arith in
-    let k = ap (λ (n : ℕ). subChunks (a .size) (take n (a .b .now)) (c .before .before .before .before .before .before .before .before .before .count .given .0 .0) 16) z
-    ∙ sym (frame-as (a .size) (a .b .now) _ (sym (c .before .before .before .before .before .before .before .before .before .before .before .frame-header .ensures) ∙ c .before .before .before .before .before .before .before .before .before .count .given .1)) in
-    (c .before .before .before .before .play-chunks .ensures .0 ∙ ap (pixelsOn (a .picture .now)) k, c .before .before .before .before .play-chunks .ensures .1 ∙ ap (coloursOn (a .palette .now)) k)
+    let a = c .before .before .before .before .before .before .before .args in
+    (sym (ap (λ (y : FrameWalk). y .answer) (frame-as (a .size) (a .b .now) _ (sym (c .before .before .before .frame-header .ensures) ∙ c .before .e .given .1))), refl)
+
+returns-3 : tie.Need-returns-3
+returns-3 c =
+    let a = c .before .before .before .before .before .before .before .before .before .before .before .before .before .before .before .before .before .before .args in
+    let x = c .before .before .before .before .play-saved in
+    let f = frame-part (a .size) (a .b .now) _ _ (sym (c .before .before .before .before .before .before .before .before .before .before .before .before .before .before .frame-header .ensures) ∙ c .before .before .before .before .before .before .before .before .before .before .before .before .count .given .1) in
+    (x .ensures .0 ∙ sym (ap (λ (y : FrameWalk). y .answer) f), x .ensures .1 ∙ sym (ap (λ (y : FrameWalk). settled y (x .result) (state (a .picture .now) (a .palette .now))) f))
 
 pub play-frame-spec : {M : Type 1} → statement M
 play-frame-spec =
@@ -50,9 +55,20 @@ play-frame-spec =
     (λ c. search needs)
     (λ c. search needs)
     (λ c. search needs)
-    part-play-chunks-end
-    play-chunks-requires
+    part-packet-bytes-end
+    packet-bytes-requires
+    (λ c. search needs)
+    (λ c. search needs)
+    part-play-twice-end
+    play-twice-requires
+    (λ c. search needs)
+    (λ c. search needs)
     returns
     (λ c. search needs)
     (λ c. search needs)
-    returns-2)
+    part-play-saved-end
+    play-saved-requires
+    returns-2
+    (λ c. search needs)
+    (λ c. search needs)
+    returns-3)

@@ -1,8 +1,7 @@
 -- `read_frame` meets its contract: the checks stand in the paper's order, and playing begins only where all of them held.
 use mathlib.Core.Bool.{true}
-use mathlib.Core.List.{List}
-use mathlib.Core.Path.{_≡_, refl, ap₂, _∙_, sym}
-use Prim.Native.Nat.{ℕ, _≤_}
+use mathlib.Core.Path.{_≡_, refl, ap, _∙_, sym}
+use Prim.Native.Nat.{_≤_}
 use native.Mathlib.Omega.{arith}
 use borrow.Author.Needs.{needs}
 use borrow.Author.Tests.{not-true, not-false}
@@ -11,11 +10,11 @@ use lib.Seq.{length-take-le}
 use Rattle.format.specs.Limits.{area, sizeOk}
 use Rattle.format.proofs.Laws.{size-in}
 use Rattle.answer.specs.Answer.{told}
-use Rattle.answer.specs.declared.Answer.the-variants.{Done}
-use Rattle.state.specs.State.{state, enough, refilled}
+use Rattle.state.specs.State.{State, state, enough, refilled}
 use Rattle.state.specs.Outcome.{lentPair, leaves}
 use Rattle.state.proofs.Laws.{enough-in, front-exact}
-use Rattle.read_frame.proofs.Laws.{read-size, read-short, read-by}
+use Rattle.read_frame.specs.Frame.{frame}
+use Rattle.read_frame.proofs.Laws.{read-size, read-short, read-by, read-settled}
 use Rattle.read_frame.proofs.read_frame.Statement.{statement}
 use Rattle.read_frame.proofs.read_frame.Tie as tie
 
@@ -45,39 +44,31 @@ returns-2 c =
     let a = c .before .before .before .before .before .before .before .before .args in
     sym (read-short (a .bytes .now) (a .size) (state (a .picture .now) (a .palette .now)) (sized (c .before .before .before)) (sym (c .before .holds .ensures) ∙ not-true _ (c .if2 .taken)))
 
-check-frame-requires : tie.Need-check-frame-requires
-check-frame-requires c κs = let z = c .before .before .before .before .before .before .before .before .args .size in size-in (z .width) (z .height) (sized (c .before .before .before))
-
-returns-3 : tie.Need-returns-3
-returns-3 c =
-    let a = c .before .before .before .before .before .before .before .before .before .before .before .before .args in
-    sym (read-by (a .bytes .now) (a .size) (state (a .picture .now) (a .palette .now)) (sized (c .before .before .before .before .before .before .before)) (held (c .before .before .before .before)) _ (sym (c .before .before .before .check-frame .ensures) ∙ c .before .e .given .1))
-
 slice-relend-prefix-play-frame : tie.Need-slice-relend-prefix-play-frame
-slice-relend-prefix-play-frame c = long (c .before .before .before) .0
+slice-relend-prefix-play-frame c = long c .0
 
 slice-aggregate-play-frame : tie.Need-slice-aggregate-play-frame
-slice-aggregate-play-frame c = sym (length-take-le _ _ (long (c .before .before .before .before) .0))
+slice-aggregate-play-frame c = sym (length-take-le _ _ (long (c .before) .0))
 
 slice-relend-prefix-play-frame-2 : tie.Need-slice-relend-prefix-play-frame-2
-slice-relend-prefix-play-frame-2 c = long (c .before .before .before .before) .1
+slice-relend-prefix-play-frame-2 c = long (c .before) .1
 
 slice-aggregate-play-frame-2 : tie.Need-slice-aggregate-play-frame-2
-slice-aggregate-play-frame-2 c = sym (length-take-le 768 (c .before .before .before .before .before .before .before .before .before .before .before .before .before .args .palette .now) (long (c .before .before .before .before .before) .1))
+slice-aggregate-play-frame-2 c = sym (length-take-le 768 (c .before .before .before .before .before .before .before .before .before .before .args .palette .now) (long (c .before .before) .1))
 
 play-frame-requires : tie.Need-play-frame-requires
 play-frame-requires c κs =
-    let a = c .before .before .before .before .before .before .before .before .before .before .before .before .before .args in (
-      front-exact (a .size) (state (a .picture .now) (a .palette .now)) (sized (c .before .before .before .before .before .before .before .before)) (area (a .size)) refl (held (c .before .before .before .before .before)),
-      sym (c .before .before .before .before .check-frame .ensures) ∙ c .before .before .enum-told .given .1,
-    )
+    let a = c .before .before .before .before .before .before .before .before .before .before .args in
+    front-exact (a .size) (state (a .picture .now) (a .palette .now)) (sized (c .before .before .before .before .before)) (area (a .size)) refl (held (c .before .before))
 
-returns-4 : tie.Need-returns-4
-returns-4 c =
-    let a = c .before .before .before .before .before .before .before .before .before .before .before .before .before .before .before .before .before .before .args in
+returns-3 : tie.Need-returns-3
+returns-3 c =
+    let a = c .before .before .before .before .before .before .before .before .before .before .before .before .before .before .before .args in
     let lent = state (a .picture .now) (a .palette .now) in
-    ap₂ (λ (p q : List ℕ). leaves (told Done) (lentPair (refilled (area (a .size)) (state p q) lent))) (c .before .before .before .before .play-frame .ensures .0) (c .before .before .before .before .play-frame .ensures .1)
-    ∙ sym (read-by (a .bytes .now) (a .size) lent (sized (c .before .before .before .before .before .before .before .before .before .before .before .before .before)) (held (c .before .before .before .before .before .before .before .before .before .before)) _ (sym (c .before .before .before .before .before .before .before .before .before .check-frame .ensures) ∙ c .before .before .before .before .before .before .before .enum-told .given .1))
+    let x = c .before .before .before .before .play-frame in
+    ap (λ (s : State). leaves (told (x .result)) (lentPair (refilled (area (a .size)) s lent))) (x .ensures .1)
+    ∙ read-settled (area (a .size)) (frame (a .size) (a .bytes .now)) (x .result) lent
+    ∙ sym (read-by (a .bytes .now) (a .size) lent (sized (c .before .before .before .before .before .before .before .before .before .before)) (held (c .before .before .before .before .before .before .before)) (x .result) (sym (x .ensures .0)))
 
 pub read-frame-spec : {M : Type 1} → statement M
 read-frame-spec =
@@ -88,10 +79,6 @@ read-frame-spec =
     mul-n
     (λ c κs. search needs)
     returns-2
-    check-frame-requires
-    (λ c. search needs)
-    returns-3
-    (λ c. search needs)
     slice-relend-prefix-play-frame
     slice-aggregate-play-frame
     slice-relend-prefix-play-frame-2
@@ -99,4 +86,4 @@ read-frame-spec =
     play-frame-requires
     (λ c. search needs)
     (λ c. search needs)
-    returns-4)
+    returns-3)

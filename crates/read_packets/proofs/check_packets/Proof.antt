@@ -12,14 +12,14 @@ use Rattle.read_packets.proofs.check_packets.Statement.{statement}
 use Rattle.read_packets.proofs.check_packets.Tie as tie
 
 abbrev Inv-loop : tie.InvT-loop
-Inv-loop body count from start width unit at₀ x₀ left₀ at x left =
-    (at ≤ length body) × Wide x × (packets unit width body count 0 from start .verdict ≡ packets unit width body left 0 at x .verdict)
+Inv-loop body count from width unit at₀ x₀ left₀ at x left =
+    (at ≤ length body) × Wide x × (packets unit width body count 0 from 0 .verdict ≡ packets unit width body left 0 at x .verdict)
 
 abbrev μ-loop : tie.MeasureT-loop
-μ-loop body count from start width unit at₀ x₀ left₀ at x left = left
+μ-loop body count from width unit at₀ x₀ left₀ at x left = left
 
 loop-holds : tie.Need-loop-holds Inv-loop μ-loop
-loop-holds c = (c .before .pre .0, c .before .pre .1, refl)
+loop-holds c = (c .before .pre .0, omega arith, refl)
 
 shared-slice-read-wide : tie.Need-shared-slice-read-wide Inv-loop μ-loop
 shared-slice-read-wide c =
@@ -32,7 +32,7 @@ loop-again c =
     let l = c .before .before .before .before .before .loop in
     let p = pair-in _ _ _ _ _ (sym (c .before .before .before .pair-at .ensures) ∙ c .before .before .if1 .taken) in (
       omega (arith, p .in-body),
-      omega (arith, p .in-row, c .wide .ensures .0, c .before .before .before .before .before .before .before .pre .2),
+      omega (arith, p .in-row, c .wide .ensures .0, c .before .before .before .before .before .before .before .pre .1),
       l .inv .2 ∙ ap (λ (k : Walk). k .verdict) (packets-more _ _ _ _ _ _ _ (c .before .before .before .before .loop-test .taken) _ _ _ _ (pair-whole _ _ _ _ _ p))
           ∙ ap (λ (n : ℕ). packets (a .unit) (a .width) (a .body .now) (l .left - 1) 0 (l .at + 4) (l .x + n + 2) .verdict) (sym (c .wide .ensures .0)),
     )

@@ -29,10 +29,10 @@ loop-again c =
     let l = c .before .loop in
     (omega arith, simp length-set (l .inv .1), repeated-pair (l .part) (l .i) _ _ (omega arith) (l .inv .2))
 
-returns : tie.Need-returns Inv-loop μ-loop
-returns c =
+returns-2 : tie.Need-returns-2 Inv-loop μ-loop
+returns-2 c =
     let l = c .before .loop in
-    let a = c .before .before .args in
+    let a = c .before .before .before .before .args in
     let e : l .i ≡ a .n = omega arith in
     sym (take-all (2 * l .i) (l .part) (omega arith)) ∙ l .inv .2 ∙ ap (λ (k : ℕ). repeated k (a .p ∷ (a .q ∷ []))) e
 
@@ -42,6 +42,9 @@ fill-pairs-spec =
     (tie.spec
     Inv-loop
     μ-loop
+    (λ c κs. search needs)
+    (λ c. search needs)
+    (λ c. search needs)
     loop-holds
     (λ c. search needs)
     (λ c. search needs)
@@ -52,4 +55,4 @@ fill-pairs-spec =
     (λ c. search needs)
     loop-again
     (λ c. search needs)
-    returns)
+    returns-2)
