@@ -1,16 +1,17 @@
 //! The seeded inputs of the reading and rewriting tests, in families; a family and a seed give the same inputs again.
 
 use crate::damage;
-use crate::frames::{Frame, Maker, KINDS, SPARE};
+use crate::frames::{frame_of, Frame, Maker, KINDS, SPARE};
 use crate::model::PALETTE_BYTES;
 use crate::rng::Rng;
 use crate::runner::calls::ReadCase;
 use crate::runner::inputs::Family;
 use crate::sizes::{lengths, long_lengths, right_size, short_lengths, small_size, wrong_size, Lengths};
 use crate::states::State;
+use crate::ways;
 
 /// The families of one input a batch, then those of many.
-pub const FAMILIES: [Family<ReadCase>; 12] = [
+pub const FAMILIES: [Family<ReadCase>; 13] = [
     Family { name: "valid", batches: 120_000, emit: valid },
     Family { name: "slipped", batches: 150_000, emit: slipped },
     Family { name: "headers", batches: 30_000, emit: headers },
@@ -23,6 +24,7 @@ pub const FAMILIES: [Family<ReadCase>; 12] = [
     Family { name: "changes", batches: 200, emit: changes },
     Family { name: "all-values", batches: 30, emit: all_values },
     Family { name: "spare", batches: 500, emit: spare },
+    Family { name: "heavy", batches: 400, emit: heavy },
 ];
 
 /// How many of the families give one input a batch.
@@ -171,6 +173,32 @@ fn spare(rng: &mut Rng, sink: &mut dyn FnMut(ReadCase)) {
             let count = frame.chunks.len() as u16 + 1;
             damage::set_word(&mut bytes, 6, count);
         }
+        sink(case_of_size(rng, bytes, width, height));
+    }
+}
+
+/// Frames with many bytes in packets, and some with just too few: behind or around a heavy sub-chunk one of each kind, right
+/// or with a slip, right up to its end or cut before it; and the heavy one itself cut.
+fn heavy(rng: &mut Rng, sink: &mut dyn FnMut(ReadCase)) {
+    let (width, height) = if rng.once_in(8) { right_size(rng) } else { small_size(rng) };
+    for kind in KINDS {
+        let slips = rng.pick(&[None, Some(4)]);
+        let mut maker = Maker { rng, width, height, slips };
+        let (first, mut last) = (maker.frame_of_kinds(&[kind]).chunks, maker.chunk(kind));
+        let mut heavy = ways::heavy(rng, width);
+        let cut = rng.pick(&[0, 1, 2, 3]);
+        match rng.below(4) {
+            0 => heavy.body.truncate(heavy.body.len() - cut),
+            1 => last.body.truncate(last.body.len().saturating_sub(cut)),
+            2 => last.body.extend(rng.bytes(cut)),
+            _ => {}
+        }
+        let chunks = match rng.below(3) {
+            0 => vec![heavy, last],
+            1 => [first, vec![heavy, last]].concat(),
+            _ => [first, vec![last, heavy]].concat(),
+        };
+        let bytes = frame_of(&chunks);
         sink(case_of_size(rng, bytes, width, height));
     }
 }

@@ -13,5 +13,6 @@ pub mod runner;
 pub mod sizes;
 pub mod states;
 pub mod trailers;
+pub mod ways;
 pub mod write_cases;
 pub mod wrong;

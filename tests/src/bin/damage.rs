@@ -11,11 +11,14 @@ use damaging::life::life;
 use damaging::make::case;
 use damaging::met::Met;
 use damaging::self_check::{seen_wrongs, trespass, unended};
-use damaging::stored::{self, Collection};
+use damaging::stored::{self, Answer, Collection};
+use damaging::twin::{reading_calls, twin};
 use flic_tests::rng::mix;
+use flic_tests::runner::calls::Call;
 use flic_tests::runner::command::fail;
 use flic_tests::runner::compare::Difference;
 use flic_tests::runner::program::{print_bytes, print_difference as print_answers};
+use flic_tests::ways::marks;
 use std::collections::BTreeSet;
 use std::io::IsTerminal;
 use std::path::{Path, PathBuf};
@@ -43,16 +46,43 @@ fn main() {
     }
 }
 
-/// Puts a case through every entry point, and gives what was answered.
-fn each_entry(case: &Case, met: &mut Met) -> Result<BTreeSet<(&'static str, u32)>, Found> {
-    let mut answers = BTreeSet::new();
-    for (call, seed) in calls(case) {
+/// Makes calls of a case, and adds what was answered, and how its frame was read.
+fn make_calls(
+    case: &Case,
+    calls: Vec<(Box<dyn Call>, u64)>,
+    met: &mut Met,
+    answers: &mut BTreeSet<Answer>,
+) -> Result<(), Found> {
+    for (call, seed) in calls {
         let entry = call.row().function;
-        let number = LIBRARY.call(&*call, seed).map_err(|difference| (entry, difference))?.told.number;
-        met.count(entry, number);
-        answers.insert((entry, number));
+        let told = LIBRARY.call(&*call, seed).map_err(|difference| (entry, difference))?.told;
+        met.count(entry, told.number);
+        answers.insert((entry, told.number));
+        if entry == "read_frame" {
+            for mark in marks(case.frame_bytes(), &told) {
+                met.ways.count(mark);
+                answers.insert(mark);
+            }
+        }
     }
-    life(case, &mut |entry, number| met.count(entry, number))?;
+    Ok(())
+}
+
+/// A case, and the entry point of the difference that was met in it.
+type Astray = (Case, Found);
+
+/// Puts a case through every entry point and its twin through those that read frames, each kept before its calls, and gives
+/// what was answered.
+fn each_entry(case: &Case, met: &mut Met, keep: &mut dyn FnMut(&Case)) -> Result<BTreeSet<Answer>, Box<Astray>> {
+    let mut answers = BTreeSet::new();
+    keep(case);
+    make_calls(case, calls(case), met, &mut answers)
+        .and_then(|()| life(case, &mut |entry, number| met.count(entry, number)))
+        .map_err(|found| Box::new((case.clone(), found)))?;
+    if let Some(twin) = twin(case) {
+        keep(&twin);
+        make_calls(&twin, reading_calls(&twin), met, &mut answers).map_err(|found| Box::new((twin.clone(), found)))?;
+    }
     met.cases += 1;
     Ok(answers)
 }
@@ -78,11 +108,10 @@ fn long_run(run: &Run) {
     let on_terminal = std::io::stderr().is_terminal();
     while started.elapsed() < Duration::from_secs(run.seconds) {
         let case = case(mix(base, met.cases));
-        kept.keep(&case);
-        match each_entry(&case, &mut met) {
+        match each_entry(&case, &mut met, &mut |case| kept.keep(case)) {
             Ok(answers) if run.collect => collection.take(&case, &answers),
             Ok(_) => {}
-            Err((entry, difference)) => found(&case, entry, &difference),
+            Err(astray) => found(&astray),
         }
         if on_terminal && told.elapsed() > PROGRESS {
             told = Instant::now();
@@ -134,7 +163,7 @@ fn print_difference(case: &Case, entry: &str, difference: &Difference) {
 }
 
 /// Stores a case in which library and model differ, and ends the run.
-fn found(case: &Case, entry: &str, difference: &Difference) -> ! {
+fn found((case, (entry, difference)): &Astray) -> ! {
     print_difference(case, entry, difference);
     match stored::store(case, &stored::found_name(case)) {
         Ok(path) => fail(&format!("  stored as {path}"), &replaying(&path)),
@@ -156,8 +185,10 @@ fn replay(file: &Path) {
             Err(error) => println!("  not stored: {error}"),
         }
     }
-    if let Err((entry, difference)) = each_entry_aloud(&case) {
-        print_difference(&case, entry, &difference);
+    let twin = twin(&case);
+    let mut aloud = [Some(&case), twin.as_ref()].into_iter().flatten();
+    if let Some((case, (entry, difference))) = aloud.find_map(|case| Some((case, each_entry_aloud(case).err()?))) {
+        print_difference(case, entry, &difference);
         fail("damage: this case shows a difference", "make this call alone and follow where the two part");
     }
     println!("damage: no difference in this case");
@@ -183,12 +214,14 @@ fn stored_cases() {
     let mut met = Met::default();
     for file in &files {
         let case = stored::load(file).unwrap_or_else(|message| fail(&message, "take this file away or store it anew"));
-        if let Err((entry, difference)) = each_entry(&case, &mut met) {
-            print_difference(&case, entry, &difference);
+        if let Err(astray) = each_entry(&case, &mut met, &mut |_| {}) {
+            let (case, (entry, difference)) = &*astray;
+            print_difference(case, entry, difference);
             let name = file.file_name().unwrap_or_default().to_string_lossy();
             fail(&format!("damage: stored case {name}"), &replaying(&format!("damage/cases/{name}")));
         }
     }
+    met.ways.print();
     require_all_met(&met);
     println!("damage: stored cases, {}", met.summary());
 }

@@ -1,6 +1,7 @@
-//! What a damage run has met: how often each entry point was called, and what it answered.
+//! What a damage run has met: how often each entry point was called, what it answered, and how frames were read.
 
 use flic_tests::runner::calls::ROWS;
+use flic_tests::ways::Ways;
 use std::collections::{BTreeMap, BTreeSet};
 
 /// How many refusals document 01's table and document 02 have.
@@ -9,6 +10,8 @@ const REFUSALS: usize = 19;
 #[derive(Default)]
 pub struct Met {
     pub cases: u64,
+    /// How frames were read: in two passes or in one.
+    pub ways: Ways,
     numbers: BTreeMap<(&'static str, u32), u64>,
 }
 
@@ -25,11 +28,11 @@ impl Met {
         self.numbers.keys().map(|(_, number)| *number).filter(|number| *number != 0).collect()
     }
 
-    /// The answers that an entry point can give and that none of its calls gave, in words.
+    /// The answers that an entry point can give and that none of its calls gave, and what no frame met on its way, in words.
     pub fn missing(&self) -> Vec<String> {
         let answers = ROWS.iter().flat_map(|row| row.numbers.iter().map(|number| (row.function, *number)));
         let missing = answers.filter(|answer| !self.numbers.contains_key(answer));
-        missing.map(|(entry, number)| format!("{entry} {number}")).collect()
+        missing.map(|(entry, number)| format!("{entry} {number}")).chain(self.ways.missing()).collect()
     }
 
     /// One line for each entry point: its calls, those that were done, and the refusals with their numbers.
@@ -46,6 +49,7 @@ impl Met {
                 .collect();
             println!("  {:13} {calls:9} calls, {done:9} done; refused {}", entry, refused.join(", "));
         }
+        self.ways.print();
     }
 
     /// The last line of a good run.

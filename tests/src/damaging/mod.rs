@@ -14,3 +14,4 @@ pub mod pages;
 pub mod self_check;
 pub mod spans;
 pub mod stored;
+pub mod twin;

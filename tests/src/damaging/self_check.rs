@@ -3,6 +3,7 @@
 use super::compare::calls;
 use super::guarded::GuardPages;
 use super::make::case;
+use super::twin::{reading_calls, twin};
 use flic_tests::rng::mix;
 use flic_tests::runner::compare::Comparer;
 use flic_tests::runner::lent::{Lender, Side};
@@ -59,7 +60,9 @@ pub fn seen_wrongs(base: u64) -> Vec<Wrong> {
         if wrongs.iter().all(|(wrong, _)| wrong.seen.is_some()) {
             break;
         }
-        let calls = calls(&case(mix(base, number)));
+        let case = case(mix(base, number));
+        let mut calls = calls(&case);
+        calls.extend(twin(&case).iter().flat_map(reading_calls));
         for (wrong, side) in wrongs.iter_mut().filter(|(wrong, _)| wrong.seen.is_none()) {
             let comparer = Comparer { subject: &*wrong.subject, lender: &GuardPages(*side) };
             let mut calls = calls.iter().filter(|(call, _)| wrong.functions.contains(&call.row().function));

@@ -48,10 +48,10 @@ pub fn load(path: &Path) -> std::result::Result<Case, String> {
     Case::of_file(&bytes).map_err(|message| format!("{}: {message}", path.display()))
 }
 
-/// An entry point and what it answered.
-type Answer = (&'static str, u32);
+/// An entry point and what it answered; or what a frame met on the way in which it was read.
+pub type Answer = (&'static str, u32);
 
-/// The smallest case met for each answer of each entry point.
+/// The smallest case met for each answer.
 #[derive(Default)]
 pub struct Collection {
     smallest: BTreeMap<Answer, (Case, BTreeSet<Answer>)>,

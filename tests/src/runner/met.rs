@@ -1,5 +1,5 @@
-//! What a run has met: answers, call by call, the kinds of frames, the lines of listings, and what ticks did; and what it
-//! should have met and didn't.
+//! What a run has met: answers, call by call, the kinds of frames, the lines of listings, what ticks did, and how frames
+//! were read; and what it should have met and didn't.
 
 use super::calls::{Row, PLAIN};
 use super::compare::Agreed;
@@ -7,6 +7,7 @@ use super::inputs::Case;
 use super::told::Rest;
 use crate::frames::{is_known, UNKNOWN};
 use crate::model::{size_at, word_at, FRAME_HEADER, MOST_DEPTH};
+use crate::ways::{marks, Ways};
 use std::collections::BTreeMap;
 
 const PROGRESS: u64 = 20_000;
@@ -69,13 +70,16 @@ pub struct Met {
     depths: [u64; MOST_DEPTH + 1],
     /// How many ticks did each thing that one can do.
     events: [u64; EVENTS.len()],
+    /// How the frames of flic_read_frame were read: in two passes or in one.
+    ways: Ways,
 }
 
 impl Met {
     pub fn nothing(rows: &[&'static Row]) -> Met {
         let tally = |row| Tally { row, calls: 0, numbers: BTreeMap::new(), kinds: BTreeMap::new() };
         let tallies = rows.iter().map(|row| tally(*row)).collect();
-        Met { tallies, listings: tally(&LISTING), depths: [0; MOST_DEPTH + 1], events: [0; EVENTS.len()] }
+        let (depths, events) = ([0; MOST_DEPTH + 1], [0; EVENTS.len()]);
+        Met { tallies, listings: tally(&LISTING), depths, events, ways: Ways::default() }
     }
 
     pub fn count(&mut self, case: &Case, agreed: &Agreed) {
@@ -88,6 +92,9 @@ impl Met {
         let tally = self.tallies.iter_mut().find(|tally| tally.row.function == row.function);
         let tally = tally.expect("a run names the rows of its families");
         tally.count(agreed.told.number);
+        if let Case::Read(case) = case {
+            marks(&case.bytes, &agreed.told).into_iter().for_each(|mark| self.ways.count(mark));
+        }
         if agreed.told.number == 0 && !agreed.left.is_empty() {
             let frame = case.call().and_then(|call| call.frame(&agreed.left));
             for kind in frame.map_or(Vec::new(), kinds_of_accepted) {
@@ -137,9 +144,12 @@ impl Met {
         if self.makes("tick") {
             EVENTS.iter().zip(self.events).for_each(|(event, ticks)| println!("  {event:11} {ticks}"));
         }
+        if self.makes("read_frame") {
+            self.ways.print();
+        }
     }
 
-    /// The answers, kinds, lines, depths and events that should have been met and weren't, in words.
+    /// The answers, kinds, lines, depths, events and ways of reading that should have been met and weren't, in words.
     pub fn missing(&self) -> Vec<String> {
         let mut missing = Vec::new();
         for Tally { row, numbers, kinds, .. } in self.tallies.iter().chain(self.lists().then_some(&self.listings)) {
@@ -152,6 +162,9 @@ impl Met {
         missing.extend(unlisted.map(|(depth, _): (usize, u64)| format!("depth {depth}")));
         let undone = EVENTS.iter().zip(self.events).filter(|(_, ticks)| self.makes("tick") && *ticks == 0);
         missing.extend(undone.map(|(event, _)| format!("a tick: {event}")));
+        if self.makes("read_frame") {
+            missing.extend(self.ways.missing());
+        }
         missing
     }
 }

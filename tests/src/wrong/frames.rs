@@ -3,6 +3,7 @@
 use super::{readings, rules};
 use crate::model::decode::{Data, FrameHeader, Frames, Line, Packet, RowStart, Screen, Ss2Word};
 use crate::model::{kind, long_enough, number, size_at, Document, Refusal, CHUNK_HEADER, FRAME_HEADER};
+use crate::ways::{packet_bytes, MANY};
 use flic_boundary::PairMut;
 use std::ops::Range;
 
@@ -183,6 +184,15 @@ readings! { ALL: Frames;
         let answer = Document.play(bytes, &mut screen);
         shown.picture.copy_from_slice(&screen.picture);
         shown.palette.copy_from_slice(&screen.palette);
+        answer
+    });
+    KeepsHalfReadHeavyFrame = OtherReadFrame(|bytes, width, height, shown| {
+        let mut screen = Document.checked(width, height, &shown)?;
+        let answer = Document.play(bytes, &mut screen);
+        if answer.as_ref().map_or_else(|refusal| refusal.place > 0 && packet_bytes(bytes) >= MANY, |()| true) {
+            shown.picture.copy_from_slice(&screen.picture);
+            shown.palette.copy_from_slice(&screen.palette);
+        }
         answer
     });
     SubChunksPastFrame = OtherFrameHeader(|bytes| {
