@@ -31,43 +31,43 @@ static size_t take_size(struct body *body)
     return low | (size_t)take_word(body) << 16;
 }
 
-static int read_colour(struct body body, uint8_t *palette, int six)
+static const uint8_t *read_colour(struct body body, uint8_t *palette, int six)
 {
     if (!has(&body, 2))
-        return 0;
+        return NULL;
     unsigned index = 0;
     for (unsigned packets = take_word(&body); packets > 0; packets--) {
         if (!has(&body, 2))
-            return 0;
+            return NULL;
         index += take_byte(&body);
         unsigned count = take_byte(&body);
         count = count == 0 ? 256 : count;
         if (index + count > 256 || !has(&body, 3 * count))
-            return 0;
+            return NULL;
         for (unsigned k = 0; k < 3 * count; k++) {
             unsigned level = take_byte(&body);
             if (six && level > 63)
-                return 0;
-            palette[3 * index + k] = (uint8_t)(six ? 4 * level : level);
+                return NULL;
+            palette[3 * index + k] = (uint8_t)(six ? 4 * level + level / 16 : level);
         }
         index += count;
     }
-    return 1;
+    return body.at;
 }
 
-static int read_brun(struct body body, uint8_t *picture, unsigned width, unsigned height)
+static const uint8_t *read_brun(struct body body, uint8_t *picture, unsigned width, unsigned height)
 {
     for (unsigned row = 0; row < height; row++) {
         if (!has(&body, 1))
-            return 0;
+            return NULL;
         body.at++;
         for (unsigned left = width; left > 0;) {
             if (!has(&body, 1))
-                return 0;
+                return NULL;
             int type = (int8_t)take_byte(&body);
             unsigned count = (unsigned)(type < 0 ? -type : type);
             if (count == 0 || count > left || !has(&body, type < 0 ? count : 1))
-                return 0;
+                return NULL;
             if (type < 0) {
                 memcpy(picture, body.at, count);
                 body.at += count;
@@ -78,28 +78,28 @@ static int read_brun(struct body body, uint8_t *picture, unsigned width, unsigne
             left -= count;
         }
     }
-    return 1;
+    return body.at;
 }
 
-static int read_lc(struct body body, uint8_t *picture, unsigned width, unsigned height)
+static const uint8_t *read_lc(struct body body, uint8_t *picture, unsigned width, unsigned height)
 {
     if (!has(&body, 4))
-        return 0;
+        return NULL;
     unsigned first = take_word(&body), rows = take_word(&body);
     if (first + rows > height)
-        return 0;
+        return NULL;
     for (uint8_t *line = picture + (size_t)first * width; rows > 0; rows--, line += width) {
-        if (!has(&body, 2))
-            return 0;
-        unsigned x = take_byte(&body);
+        if (!has(&body, 1))
+            return NULL;
+        unsigned x = 0;
         for (unsigned packets = take_byte(&body); packets > 0; packets--) {
             if (!has(&body, 2))
-                return 0;
+                return NULL;
             x += take_byte(&body);
             int type = (int8_t)take_byte(&body);
             unsigned count = (unsigned)(type < 0 ? -type : type);
             if (x + count > width || !has(&body, type < 0 ? 1 : count))
-                return 0;
+                return NULL;
             if (type < 0) {
                 memset(line + x, (int)take_byte(&body), count);
             } else {
@@ -109,7 +109,7 @@ static int read_lc(struct body body, uint8_t *picture, unsigned width, unsigned 
             x += count;
         }
     }
-    return 1;
+    return body.at;
 }
 
 static int read_ss2_packets(struct body *body, uint8_t *line, unsigned width, unsigned packets)
@@ -135,48 +135,49 @@ static int read_ss2_packets(struct body *body, uint8_t *line, unsigned width, un
     return 1;
 }
 
-static int read_ss2(struct body body, uint8_t *picture, unsigned width, unsigned height)
+static const uint8_t *read_ss2(struct body body, uint8_t *picture, unsigned width, unsigned height)
 {
     if (!has(&body, 2))
-        return 0;
+        return NULL;
     unsigned row = 0;
     for (unsigned lines = take_word(&body); lines > 0;) {
         if (!has(&body, 2))
-            return 0;
+            return NULL;
         unsigned word = take_word(&body);
         if (word >= 0xC000) {
             row += 65536 - word;
             if (row >= height)
-                return 0;
+                return NULL;
             continue;
         }
         if (row >= height)
-            return 0;
+            return NULL;
         uint8_t *line = picture + (size_t)row * width;
         if (word >= 0x8000) {
             line[width - 1] = (uint8_t)word;
             if (!has(&body, 2))
-                return 0;
+                return NULL;
             word = take_word(&body);
         }
         if (word >= 0x4000 || !read_ss2_packets(&body, line, width, word))
-            return 0;
+            return NULL;
         row++;
         lines--;
     }
-    return 1;
+    return body.at;
 }
 
-static int read_copy(struct body body, uint8_t *picture, size_t pixels)
+static const uint8_t *read_copy(struct body body, uint8_t *picture, size_t pixels)
 {
     if (!has(&body, pixels))
-        return 0;
+        return NULL;
     memcpy(picture, body.at, pixels);
-    return 1;
+    return body.at + pixels;
 }
 
-static int read_chunk(unsigned kind, struct body body, unsigned width, unsigned height, uint8_t *picture,
-                      uint8_t *palette)
+/* The end of what a chunk's kind asks for. */
+static const uint8_t *read_body(unsigned kind, struct body body, unsigned width, unsigned height, uint8_t *picture,
+                                uint8_t *palette)
 {
     switch (kind) {
     case 4:
@@ -189,14 +190,22 @@ static int read_chunk(unsigned kind, struct body body, unsigned width, unsigned 
         return read_lc(body, picture, width, height);
     case 13:
         memset(picture, 0, (size_t)width * height);
-        return 1;
+        return body.at;
     case 15:
         return read_brun(body, picture, width, height);
     case 16:
         return read_copy(body, picture, (size_t)width * height);
     default:
-        return 1;
+        return body.end;
     }
+}
+
+/* Behind its data a chunk has one byte at most. */
+static int read_chunk(unsigned kind, struct body body, unsigned width, unsigned height, uint8_t *picture,
+                      uint8_t *palette)
+{
+    const uint8_t *end = read_body(kind, body, width, height, picture, palette);
+    return end != NULL && body.end - end <= 1;
 }
 
 int plain_read_frame(const uint8_t *bytes, size_t length, unsigned width, unsigned height, uint8_t *picture,
