@@ -1,8 +1,10 @@
-/* Makes the five reels of 320 by 200 through the C boundary, with the states that each shows, and says what each holds.
+/* Makes the reels of 320 by 200 through the C boundary, two with deltas by encode.c, with the states that each shows,
+ * and says what each holds.
  * Usage: make_reels DIRECTORY */
 #include <stdio.h>
 #include <string.h>
 
+#include "encode.h"
 #include "flic.h"
 #include "reel.h"
 
@@ -26,7 +28,19 @@ static unsigned brun_packets(const uint8_t *at, unsigned width, unsigned height)
     return packets;
 }
 
-/* At even widths house form has no last-pixel words. */
+static unsigned lc_packets(const uint8_t *at)
+{
+    unsigned packets = 0, rows = word(at + 2);
+    for (at += 4; rows > 0; rows--) {
+        unsigned count = *at++;
+        packets += count;
+        for (; count > 0; count--)
+            at += at[1] < 128 ? 2 + at[1] : 3;
+    }
+    return packets;
+}
+
+/* At even widths there are no last-pixel words. */
 static unsigned ss2_packets(const uint8_t *at)
 {
     unsigned packets = 0, lines = word(at);
@@ -57,19 +71,22 @@ static void count_frame(struct met *met, const struct reel *reel, unsigned i)
     for (at += 16; chunks > 0; chunks--) {
         unsigned kind = word(at + 4);
         if (kind >= KINDS)
-            fail("a reel has a kind that house form doesn't have", "run ./test");
+            fail("a reel has a kind that no reel here has", "run ./test");
         met->kinds[kind]++;
         if (kind == 15)
             met->packets += brun_packets(at + 6, reel->width, reel->height);
-        if (kind == 7)
+        if (kind == SS2)
             met->packets += ss2_packets(at + 6);
+        if (kind == LC)
+            met->packets += lc_packets(at + 6);
         at += word(at) | word(at + 2) << 16;
     }
 }
 
 static void print_met(enum scene scene, const struct reel *reel)
 {
-    static const char *const names[KINDS] = {[4] = "COLOR256", [7] = "SS2", [13] = "BLACK", [15] = "BRUN", [16] = "COPY"};
+    static const char *const names[KINDS] = {[4] = "COLOR256", [SS2] = "SS2", [LC] = "LC", [13] = "BLACK", [15] = "BRUN",
+                                              [16] = "COPY"};
     struct met met = {0};
     for (unsigned i = 1; i <= reel->frames; i++)
         count_frame(&met, reel, i);
@@ -114,6 +131,16 @@ static void write_states(FILE *file, const struct reel *reel, const struct state
     free_state(&shown);
 }
 
+static struct reel made_reel(enum scene scene, const struct state *states)
+{
+    struct reel built = built_reel(320, 200, SCENE_FRAMES, states);
+    if (scene != SCROLL && scene != ANIMATOR)
+        return built;
+    struct reel encoded = encoded_reel(&built, scene == SCROLL ? SS2 : LC, states);
+    free_reel(&built);
+    return encoded;
+}
+
 int main(int count, char **words)
 {
     if (count != 2) {
@@ -125,7 +152,7 @@ int main(int count, char **words)
     printf("%-8s %10s %10s %10s   %s\n", "reel", "frame 1", "bytes", "packets", "chunks in a lap");
     for (enum scene scene = 0; scene < SCENES; scene++) {
         struct state *states = scene_states(scene, 320, 200);
-        struct reel reel = built_reel(320, 200, SCENE_FRAMES, states);
+        struct reel reel = made_reel(scene, states);
         FILE *file = created(words[1], scene, "flc"), *shown = created(words[1], scene, "states");
         print_met(scene, &reel);
         write_all(file, reel.bytes, reel.size);

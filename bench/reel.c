@@ -5,6 +5,7 @@
 #include <stdlib.h>
 #include <string.h>
 
+#include "encode.h"
 #include "flic.h"
 
 void fail(const char *what, const char *so)
@@ -111,6 +112,30 @@ struct reel built_reel(unsigned width, unsigned height, unsigned frames, const s
     check_bytes(reel.bytes, reel.size, (size_t)width * height, work);
     find_offsets(&reel);
     free_state(&blank);
+    free_state(&work[0]);
+    free_state(&work[1]);
+    return reel;
+}
+
+static void set_size(uint8_t *bytes, size_t size)
+{
+    for (unsigned k = 0; k < 4; k++)
+        bytes[k] = (uint8_t)(size >> 8 * k);
+}
+
+struct reel encoded_reel(const struct reel *built, unsigned kind, const struct state *states)
+{
+    struct reel reel = *built;
+    struct state work[2] = {blank_state(reel.width, reel.height), blank_state(reel.width, reel.height)};
+    reel.size = built->offsets[1];
+    reel.bytes = room(reel.size + (size_t)reel.frames * ENCODED_MOST);
+    memcpy(reel.bytes, built->bytes, reel.size);
+    for (unsigned i = 1; i <= reel.frames; i++)
+        reel.size += encode_frame(kind, reel.width, reel.height, states[i - 1].picture, states[i % reel.frames].picture,
+                                  reel.bytes + reel.size);
+    set_size(reel.bytes, reel.size);
+    check_bytes(reel.bytes, reel.size, (size_t)reel.width * reel.height, work);
+    find_offsets(&reel);
     free_state(&work[0]);
     free_state(&work[1]);
     return reel;

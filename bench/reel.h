@@ -1,4 +1,4 @@
-/* Reels in memory, for the programs of the benchmark: built through the C boundary, or loaded from a file. */
+/* Reels in memory, for the programs of the benchmark: built through the C boundary, encoded anew, or loaded. */
 #ifndef REEL_H
 #define REEL_H
 
@@ -40,6 +40,9 @@ size_t build_into(uint8_t *bytes, size_t length, unsigned width, unsigned height
 void check_bytes(const uint8_t *bytes, size_t size, size_t pixels, struct state work[2]);
 
 struct reel built_reel(unsigned width, unsigned height, unsigned frames, const struct state *states);
+
+/* The reel with each frame after the first, and the ring, as one chunk of this kind (encode.h). The palette stays. */
+struct reel encoded_reel(const struct reel *built, unsigned kind, const struct state *states);
 struct reel loaded_reel(const char *name);
 void free_reel(struct reel *reel);
 

@@ -1,12 +1,12 @@
-/* The pictures of the five reels, at any size, for the benchmark. */
+/* The pictures of the reels, at any size, for the benchmark. */
 #ifndef SCENES_H
 #define SCENES_H
 
 #include <stdint.h>
 
-enum scene { BOARD, DENSE, TEXT, TEXTURE, NOISE, SCENES };
+enum scene { BOARD, DENSE, TEXT, TEXTURE, NOISE, SCROLL, BUSY, ANIMATOR, SCENES };
 
-/* After so many frames the board is back at its first state. */
+/* After so many frames the boards and the balls are back at their first state. */
 #define SCENE_FRAMES 48
 
 extern const char *const scene_names[SCENES];
