@@ -10,34 +10,15 @@
 #define REEL_SECONDS 5.0
 #define LEAST_ROUNDS 40
 
-static const struct decoder *const decoders[] = {&ours, &libavcodec, &libavcodec_held, &plain};
-enum { OURS, LIBAV, HELD, PLAIN, DECODERS, PASS_1 = DECODERS, COPYING, CHECKING, COLUMNS };
+/* Those that show the pictures, and pass 1. */
+static const struct decoder *const decoders[] = {&ours, &libavcodec, &libavcodec_held, &plain, &pass_1};
+enum { OURS, LIBAV, HELD, PLAIN, SHOWING, PASS_1 = SHOWING, DECODERS, COPYING = DECODERS, CHECKING, COLUMNS };
 
 /* A lap leads from frame 1's state back to it. */
 static void play_lap(const struct decoder *decoder, struct player *player, unsigned frames)
 {
     for (unsigned i = 1; i <= frames; i++)
         decoder->play(player, i);
-}
-
-/* The reel with one sub-chunk more in each frame's count than there is: each frame is checked to its end, then refused 4. */
-static struct reel cut_reel(const struct reel *reel)
-{
-    struct reel cut = *reel;
-    cut.bytes = room(reel->size);
-    memcpy(cut.bytes, reel->bytes, reel->size);
-    for (unsigned i = 0; i <= reel->frames; i++)
-        cut.bytes[reel->offsets[i] + 6]++;
-    return cut;
-}
-
-static void check_lap(const struct reel *cut, struct state *shown)
-{
-    size_t n = (size_t)cut->width * cut->height;
-    for (unsigned i = 1; i <= cut->frames; i++)
-        if (flic_read_frame(frame_bytes(cut, i), frame_length(cut, i), cut->width, cut->height, shown->picture, n,
-                            shown->palette, PALETTE).number != 4)
-            fail("flic_read_frame accepts a frame that ends too soon", "run ./test");
 }
 
 static void copy_lap(struct state *shown, const struct state *states, unsigned frames, size_t pixels)
@@ -55,7 +36,7 @@ static void compare(const struct reel *reel, struct player **players, struct sta
     struct state seen = blank_state(reel->width, reel->height);
     for (unsigned i = 0; i <= reel->frames; i++) {
         states[i] = blank_state(reel->width, reel->height);
-        for (int d = 0; d < DECODERS; d++) {
+        for (int d = 0; d < SHOWING; d++) {
             decoders[d]->play(players[d], i);
             decoders[d]->show(players[d], d == 0 ? &states[i] : &seen);
             if (d > 0 && (memcmp(seen.picture, states[i].picture, (size_t)reel->width * reel->height) != 0 ||
@@ -74,7 +55,6 @@ static unsigned time_reel(const struct reel *reel, double least[COLUMNS])
     for (int d = 0; d < DECODERS; d++)
         players[d] = decoders[d]->open(reel);
     compare(reel, players, states);
-    struct reel cut = cut_reel(reel);
     size_t pixels = (size_t)reel->width * reel->height;
     unsigned rounds = 0;
     double begin = seconds();
@@ -83,8 +63,6 @@ static unsigned time_reel(const struct reel *reel, double least[COLUMNS])
             double start = seconds();
             if (column < DECODERS)
                 play_lap(decoders[column], players[column], reel->frames);
-            else if (column == PASS_1)
-                check_lap(&cut, &pairs[0]);
             else if (column == COPYING)
                 copy_lap(&pairs[0], states, reel->frames, pixels);
             else

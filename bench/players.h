@@ -17,6 +17,7 @@ struct decoder {
     void (*show)(struct player *player, struct state *state);
 };
 
-extern const struct decoder ours, libavcodec, libavcodec_held, plain;
+/* Pass 1 is ours on the same frames with one sub-chunk more in the count than there is: refused 4 at their very end. */
+extern const struct decoder ours, pass_1, libavcodec, libavcodec_held, plain;
 
 #endif
