@@ -11,14 +11,13 @@ use std::io::{self, Read};
 
 pub const COMMAND: Command = Command {
     name: "replay",
+    usage: "FILE < READINGS",
     summary: "says which frame showed after each reading of a clock",
-    help: "usage: flic replay FILE < READINGS
-
+    about: "\
 Says what a board that plays the reel showed, from recorded readings of its millisecond counter, which has 32 bits and
 rolls over. Standard input has a reading a line, a whole number from 0 to 4294967295: the first line is the reading at
 which the board was started, every further line is a tick. For each tick a line is printed, with the number of the frame
-that showed after it; the ring has the number after the last frame's.
-",
+that showed after it; the ring has the number after the last frame's.",
     options: &[],
     run,
 };

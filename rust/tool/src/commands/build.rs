@@ -13,17 +13,16 @@ use std::path::{Path, PathBuf};
 
 pub const COMMAND: Command = Command {
     name: "build",
+    usage: "OUT --speed MS [--trailer] PICTURE..",
     summary: "makes a reel from pictures",
-    help: "usage: flic build OUT --speed MS [--trailer] PICTURE..
-
+    about: "\
 Makes the reel OUT, which shows the pictures in their order and leads back to the first. A picture is a PPM (P6, P3)
 or PGM (P5, P2) file with levels up to 255 and at most 256 colours; all are of one size within 320 by 200.
-At most 4,000 pictures. OUT is replaced only if it is a FLC file.
-
-  --speed MS   for how many milliseconds a frame shows
-  --trailer    writes the index of frame offsets behind the reel
-",
-    options: &[Opt { name: "--speed", takes_value: true }, Opt { name: "--trailer", takes_value: false }],
+At most 4,000 pictures. OUT is replaced only if it is a FLC file.",
+    options: &[
+        Opt { name: "--speed", value: Some("MS"), about: "for how many milliseconds a frame shows" },
+        Opt { name: "--trailer", value: None, about: "writes the index of frame offsets behind the reel" },
+    ],
     run,
 };
 

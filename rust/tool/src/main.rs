@@ -39,7 +39,7 @@ fn run(name: Option<&OsString>, words: impl Iterator<Item = OsString>) -> Outcom
     };
     let arguments = Arguments::sorted(words, command.options)?;
     match arguments.wants_help {
-        true => say(command.help),
+        true => say(&command.help()),
         false => (command.run)(arguments),
     }
 }

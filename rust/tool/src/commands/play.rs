@@ -13,18 +13,21 @@ use std::time::Instant;
 
 pub const COMMAND: Command = Command {
     name: "play",
+    usage: "FILE [--laps N] [--speed MS]",
     summary: "plays a reel in the terminal",
-    help: "usage: flic play FILE [--laps N] [--speed MS]
-
+    about: "\
 Plays the reel in the terminal, as a board does: lap after lap, at the reel's own speed, until q or Ctrl-C is pressed.
 A character shows two pixels, one above the other, so that a picture of 160 by 64 takes 160 columns and 32 rows; in a
 smaller terminal it is scaled down. The terminal has to show 24-bit colours and UTF-8. Without one, flic frames writes
-the pictures.
-
-  --laps N     ends after so many laps, as the ring is drawn
-  --speed MS   for how many milliseconds a frame shows, instead of what the reel says; 0 is as fast as it can be drawn
-",
-    options: &[Opt { name: "--laps", takes_value: true }, Opt { name: "--speed", takes_value: true }],
+the pictures.",
+    options: &[
+        Opt { name: "--laps", value: Some("N"), about: "ends after so many laps, as the ring is drawn" },
+        Opt {
+            name: "--speed",
+            value: Some("MS"),
+            about: "for how many milliseconds a frame shows; 0 is as fast as can be",
+        },
+    ],
     run,
 };
 

@@ -10,13 +10,12 @@ use flic::{check_reel, check_trailer, write_trailer, CheckedReel, Reel};
 
 pub const COMMAND: Command = Command {
     name: "rewrite",
+    usage: "IN OUT",
     summary: "writes the same pictures in house form",
-    help: "usage: flic rewrite IN OUT
-
+    about: "\
 Writes the reel IN anew as OUT, in house form: the same pictures, palettes and speed, and a trailer if IN has one.
 Other chunks, dates, and bytes behind the reel that aren't its trailer aren't kept.
-OUT may be IN, and is replaced only if it is a FLC file.
-",
+OUT may be IN, and is replaced only if it is a FLC file.",
     options: &[],
     run,
 };

@@ -11,13 +11,12 @@ use std::path::Path;
 
 pub const COMMAND: Command = Command {
     name: "check",
+    usage: "FILE..",
     summary: "plays every frame and the ring, and checks the trailer",
-    help: "usage: flic check FILE..
-
+    about: "\
 Plays every frame and the ring of each file, and checks what stands behind the reel, if anything does.
 Prints 'FILE: ok', or the refusal's number, its offset, the frame in which it lies, and what to do.
-A file may be of any size. Exit status 1 if any file is refused or can't be read.
-",
+A file may be of any size. Exit status 1 if any file is refused or can't be read.",
     options: &[],
     run,
 };

@@ -11,14 +11,13 @@ use std::path::Path;
 
 pub const COMMAND: Command = Command {
     name: "trailer",
+    usage: "check|write FILE",
     summary: "checks or writes the index of frame offsets behind a reel",
-    help: "usage: flic trailer check|write FILE
-
+    about: "\
 check   says whether what stands behind the reel is its trailer, or nothing; exit status 1 if it is something else.
 write   writes the trailer behind the reel, in place of whatever stands there.
 
-Neither opens a frame; flic check does.
-",
+Neither opens a frame; flic check does.",
     options: &[],
     run,
 };

@@ -13,19 +13,16 @@ use std::path::Path;
 
 pub const COMMAND: Command = Command {
     name: "frames",
+    usage: "FILE DIR [--laps N]",
     summary: "writes every frame and the ring as pictures",
-    help: "usage: flic frames FILE DIR [--laps N]
-
+    about: "\
 Plays the reel and writes what shows after each frame and after the ring as a PPM picture into DIR, which is made,
 or is empty. Lap 1 begins with frame 1, every further lap with frame 2, since the ring shows frame 1 again:
 
     lap1-0001.ppm  lap1-0002.ppm  lap1-0003-ring.ppm  lap2-0002.ppm  lap2-0003-ring.ppm
 
-Leave the ring out where a reel is built from them again: lap1-*[0-9].ppm are the frames of a lap.
-
-  --laps N   how many laps to play (1)
-",
-    options: &[Opt { name: "--laps", takes_value: true }],
+Leave the ring out where a reel is built from them again: lap1-*[0-9].ppm are the frames of a lap.",
+    options: &[Opt { name: "--laps", value: Some("N"), about: "how many laps to play (1)" }],
     run,
 };
 

@@ -12,12 +12,11 @@ use std::collections::BTreeMap;
 
 pub const COMMAND: Command = Command {
     name: "info",
+    usage: "FILE",
     summary: "shows the header, and the bytes of each kind of chunk",
-    help: "usage: flic info FILE
-
-Prints the fields of the file header, then how many chunks of each kind there are and how many bytes they take.
-The bytes sum up to the file's. Of a refused FLC file the header is shown, if it is whole, with exit status 1.
-",
+    about:
+        "Prints the fields of the file header, then how many chunks of each kind there are and how many bytes they take.
+The bytes sum up to the file's. Of a refused FLC file the header is shown, if it is whole, with exit status 1.",
     options: &[],
     run,
 };

@@ -10,12 +10,11 @@ use flic::LISTED_MOST;
 
 pub const COMMAND: Command = Command {
     name: "list",
+    usage: "FILE",
     summary: "lists the chunks, one line each",
-    help: "usage: flic list FILE
-
+    about: "\
 Prints 'flic WIDTH HEIGHT FRAMES', then a line for each chunk up to the ring with its depth, offset, kind and size,
-then 'ok'; or the one line 'refused NUMBER OFFSET', with exit status 1. Files of up to 65,536 bytes are listed.
-",
+then 'ok'; or the one line 'refused NUMBER OFFSET', with exit status 1. Files of up to 65,536 bytes are listed.",
     options: &[],
     run,
 };

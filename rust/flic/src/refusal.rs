@@ -164,7 +164,7 @@ mod tests {
 
     #[test]
     fn names_are_those_of_the_document() {
-        let document = include_str!("../../docs/REFUSALS.md");
+        let document = include_str!("../../../docs/REFUSALS.md");
         for refusal in Refusal::ALL {
             let row = format!("| {} | {refusal:?} |", refusal.number());
             assert!(document.contains(&row), "docs/REFUSALS.md has no row that begins {row}");

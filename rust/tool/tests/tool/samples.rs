@@ -13,7 +13,7 @@ use std::fs;
 use std::path::{Path, PathBuf};
 
 fn sample(name: &str) -> PathBuf {
-    Path::new(env!("CARGO_MANIFEST_DIR")).join("../samples").join(name)
+    Path::new(env!("CARGO_MANIFEST_DIR")).join("../../samples").join(name)
 }
 
 fn built(canvases: &[Canvas], options: &[&str]) -> Vec<u8> {

@@ -7,7 +7,20 @@ use std::path::{Path, PathBuf};
 /// An option that a command knows.
 pub struct Opt {
     pub name: &'static str,
-    pub takes_value: bool,
+    /// What its value is called; none where it takes no value.
+    pub value: Option<&'static str>,
+    /// What it does, in a line.
+    pub about: &'static str,
+}
+
+impl Opt {
+    /// As it is written: the name, and what its value is called.
+    pub fn usage(&self) -> String {
+        match self.value {
+            Some(value) => format!("{} {value}", self.name),
+            None => self.name.to_string(),
+        }
+    }
 }
 
 #[derive(Debug, Default)]
@@ -51,7 +64,7 @@ impl Arguments {
             };
             return misused(format!("there is no option {name}{}{file}", hint(name, &names)));
         };
-        let value = match (option.takes_value, attached) {
+        let value = match (option.value.is_some(), attached) {
             (false, Some(_)) => return misused(format!("{name} takes no value")),
             (false, None) => OsString::new(),
             (true, attached) => match attached.or_else(|| words.next()) {
@@ -127,8 +140,10 @@ mod tests {
     use super::super::failure::Failure;
     use super::*;
 
-    const OPTIONS: [Opt; 2] =
-        [Opt { name: "--speed", takes_value: true }, Opt { name: "--trailer", takes_value: false }];
+    const OPTIONS: [Opt; 2] = [
+        Opt { name: "--speed", value: Some("MS"), about: "how long" },
+        Opt { name: "--trailer", value: None, about: "an index" },
+    ];
 
     fn sorted(words: &[&str]) -> Outcome<Arguments> {
         Arguments::sorted(words.iter().map(OsString::from), &OPTIONS)

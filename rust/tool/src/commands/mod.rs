@@ -1,0 +1,81 @@
+//! The commands, one module each.
+
+mod build;
+mod check;
+mod frames;
+mod info;
+mod list;
+mod play;
+mod replay;
+mod rewrite;
+mod trailer;
+
+use crate::tool::arguments::{Arguments, Opt};
+use crate::tool::failure::Outcome;
+
+/// A row of the table of commands: all that the tool says about a command is made from it.
+pub struct Command {
+    pub name: &'static str,
+    /// The words behind the name.
+    pub usage: &'static str,
+    /// One line for the list of commands.
+    pub summary: &'static str,
+    /// What it does, in paragraphs; the options aren't explained there.
+    pub about: &'static str,
+    pub options: &'static [Opt],
+    pub run: fn(Arguments) -> Outcome,
+}
+
+pub const ALL: [Command; 9] = [
+    check::COMMAND,
+    info::COMMAND,
+    list::COMMAND,
+    play::COMMAND,
+    replay::COMMAND,
+    frames::COMMAND,
+    build::COMMAND,
+    rewrite::COMMAND,
+    trailer::COMMAND,
+];
+
+impl Command {
+    /// The usage line.
+    pub fn usage(&self) -> String {
+        format!("usage: flic {} {}", self.name, self.usage)
+    }
+
+    /// The usage line, what the command does, and its options.
+    pub fn help(&self) -> String {
+        let width = self.options.iter().map(|option| option.usage().len()).max().unwrap_or(0);
+        let option = |option: &Opt| format!("  {:width$}   {}\n", option.usage(), option.about);
+        let options: String = self.options.iter().map(option).collect();
+        let gap = if options.is_empty() { "" } else { "\n" };
+        format!("{}\n\n{}\n{gap}{options}", self.usage(), self.about)
+    }
+}
+
+#[cfg(test)]
+mod tests {
+    use super::*;
+
+    #[test]
+    fn every_option_stands_in_the_usage_line_and_in_the_help() {
+        for command in &ALL {
+            for option in command.options {
+                assert!(command.usage.contains(&option.usage()), "{}: {}", command.name, option.name);
+                assert!(command.help().contains(&format!("\n  {} ", option.usage())), "{}", command.help());
+            }
+            let named = command.usage.matches("--").count();
+            assert_eq!(named, command.options.len(), "{}", command.usage);
+        }
+    }
+
+    #[test]
+    fn no_line_is_too_long_to_be_read() {
+        for command in &ALL {
+            let longest = command.help().lines().map(str::len).max();
+            assert!(longest <= Some(120), "{}: {longest:?}", command.name);
+            assert!(!command.about.ends_with('\n') && !command.about.is_empty(), "{}", command.name);
+        }
+    }
+}
