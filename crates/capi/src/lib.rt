@@ -19,9 +19,12 @@ ghost use Rattle.board_clock.specs.Replay.{replayed};
 ghost use Rattle.board_player.specs.Player.{toldTick};
 ghost use Rattle.board_player.specs.Ticking.{tick};
 ghost use Rattle.board_player.specs.Starting.{startPlayer};
+ghost use Rattle.board_tiles.specs.Marks.{tileRow};
+ghost use Rattle.board_tiles.specs.Mapping.{tileMap};
 ghost use Rattle.capi.specs.Capi.{headerFor, spanFor, HeldCost, lengthOf, eventOf, nothing, reelFrom, recordFor, recordOf, Told, Held, HeldLength, HeldReel, HeldPlayer, HeldTick};
 use board_player::Player;
 use board_player::Ticked;
+use board_tiles::TileRow;
 use chunks::Next;
 use format::Size;
 use house_rows::RowCost;
@@ -542,4 +545,27 @@ pub extern "C" fn flic_replay(
 {
     let a = board_clock::replay(speed, frames, start, readings, numbers);
     written_for_c(a)
+}
+
+// Maps the tiles that have a changed pixel: a word for each row of tiles.
+#[no_mangle]
+pub extern "C" fn flic_tile_map(
+    width: usize,
+    height: usize,
+    previous_picture: &[u8],
+    next_picture: &[u8],
+    words: &mut [u64],
+) -> Delivered
+    ensures { λ r. ⌜ HeldLength (r .number) (r .place) (r .length) (lentBytes (now (words .exit))) (tileMap width height (now («previous_picture» .entry)) (now («next_picture» .entry)) (now (words .entry))) ⌝ }
+{
+    let a = board_tiles::tile_map(width, height, previous_picture, next_picture, words);
+    written_for_c(a)
+}
+
+// The marked tiles of a word: how many, the first and the last.
+#[no_mangle]
+pub extern "C" fn flic_marked_tiles(word: u64) -> TileRow
+    ensures { λ r. ⌜ r ≡ tileRow word ⌝ }
+{
+    board_tiles::tile_row(word)
 }

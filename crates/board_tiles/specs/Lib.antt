@@ -1,0 +1,4 @@
+pub mod Tiles
+pub mod Marks
+pub mod Mapping
+pub mod Noted
