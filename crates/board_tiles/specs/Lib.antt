@@ -2,3 +2,4 @@ pub mod Tiles
 pub mod Marks
 pub mod Mapping
 pub mod Noted
+pub mod Panel
