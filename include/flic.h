@@ -267,6 +267,26 @@ flic_written flic_replay(uint32_t speed, uint64_t frames, uint32_t start,
                          const uint32_t *readings, size_t readings_len,
                          uint32_t *numbers, size_t numbers_len);
 
+/* Maps the tiles to redraw, of 8 by 8 pixels, those at the right and at the bottom cut short: from a previous and a next
+ * picture a word for each row of tiles, from the top; bit i of it is set exactly if tile i from the left has a changed
+ * pixel. There are (height + 7) / 8 rows, of (width + 7) / 8 tiles each, which done gives as the length; bits past the
+ * last tile are 0, and words past the last row stay as they were. 25 words hold any map. Refused, with place 0: 2, 1,
+ * then 3 for fewer words than rows of tiles.
+ *
+ * Redrawing the marked tiles of the previous picture from the next gives the next: colours are not looked at, and a
+ * panel that shows them redraws all tiles where the palette changed. */
+flic_written flic_tile_map(uint64_t width, uint64_t height,
+                           const uint8_t *previous_picture, size_t previous_picture_len,
+                           const uint8_t *next_picture, size_t next_picture_len,
+                           uint64_t *words, size_t words_len);
+
+/* How many tiles are marked in a word, the first of them and the last; 64 for both where none is. */
+typedef struct {
+    uint32_t count, first, last;
+} flic_tile_row;
+
+flic_tile_row flic_marked_tiles(uint64_t word);
+
 #ifdef __cplusplus
 }
 #endif
