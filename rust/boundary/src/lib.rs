@@ -112,6 +112,15 @@ pub struct Ticked {
     pub event: u32,
 }
 
+/// How many tiles of a word are marked, the first and the last, 64 for both where none is.
+#[repr(C)]
+#[derive(Clone, Copy, Debug, Default, PartialEq, Eq)]
+pub struct TileRow {
+    pub count: u32,
+    pub first: u32,
+    pub last: u32,
+}
+
 /// A lent picture and palette that are only looked at.
 #[derive(Clone, Copy)]
 pub struct Pair<'a> {
@@ -258,6 +267,19 @@ extern "C" {
         numbers: *mut u32,
         numbers_len: usize,
     ) -> Written;
+
+    fn flic_tile_map(
+        width: u64,
+        height: u64,
+        previous_picture: *const u8,
+        previous_picture_len: usize,
+        next_picture: *const u8,
+        next_picture_len: usize,
+        words: *mut u64,
+        words_len: usize,
+    ) -> Written;
+
+    fn flic_marked_tiles(word: u64) -> TileRow;
 }
 
 /// The slice itself, or a copy where it overlaps one of the others: no two lent slices of a call may.
@@ -453,6 +475,26 @@ pub fn tick(player: &mut Player, bytes: &[u8], now: u32, shown: PairMut) -> Tick
 
 pub fn replay(speed: u32, frames: u64, start: u32, readings: &[u32], numbers: &mut [u32]) -> Written {
     unsafe { flic_replay(speed, frames, start, readings.as_ptr(), readings.len(), numbers.as_mut_ptr(), numbers.len()) }
+}
+
+pub fn tile_map(width: u64, height: u64, previous: &[u8], next: &[u8], words: &mut [u64]) -> Written {
+    let next = apart(next, &[previous]);
+    unsafe {
+        flic_tile_map(
+            width,
+            height,
+            previous.as_ptr(),
+            previous.len(),
+            next.as_ptr(),
+            next.len(),
+            words.as_mut_ptr(),
+            words.len(),
+        )
+    }
+}
+
+pub fn marked_tiles(word: u64) -> TileRow {
+    unsafe { flic_marked_tiles(word) }
 }
 
 #[cfg(test)]

@@ -104,6 +104,14 @@ pub fn replay(speed: u32, frames: usize, start: u32, readings: &[u32], numbers: 
     length(codec::replay(speed, frames as u64, start, readings, numbers))
 }
 
+pub fn tile_map(width: u64, height: u64, previous: &[u8], next: &[u8], words: &mut [u64]) -> Result<usize> {
+    length(codec::tile_map(width, height, previous, next, words))
+}
+
+pub fn marked_tiles(word: u64) -> codec::TileRow {
+    codec::marked_tiles(word)
+}
+
 #[cfg(test)]
 mod tests {
     use super::*;
@@ -184,5 +192,18 @@ mod tests {
         assert_eq!(numbers, [7; 3]);
         assert_eq!(number(replay(1, 2, 0, &[1, 1], &mut numbers)), Ok(2));
         assert_eq!(numbers, [2, 2, 7]);
+    }
+
+    #[test]
+    fn a_tile_map_is_refused_for_its_size_then_its_pictures_then_its_words() {
+        let mut words = [7; 2];
+        let number = |result: Result<usize>| result.map_err(|why| (why.refusal.number(), why.place));
+        assert_eq!(number(tile_map(0, 17, &[], &[], &mut words)), Err((2, 0)));
+        assert_eq!(number(tile_map(1, 17, &[0; 17], &[0; 16], &mut words)), Err((1, 0)));
+        assert_eq!(number(tile_map(1, 17, &[0; 16], &[0; 17], &mut words)), Err((1, 0)));
+        assert_eq!(number(tile_map(1, 17, &[0; 17], &[0; 17], &mut words)), Err((3, 0)));
+        assert_eq!(words, [7; 2]);
+        assert_eq!(number(tile_map(1, 8, &[0; 8], &[0, 0, 0, 0, 0, 0, 0, 1], &mut words)), Ok(1));
+        assert_eq!(words, [1, 7]);
     }
 }

@@ -2,9 +2,10 @@
 //!
 //! A [`Reel`] takes pictures and gives a file; a [`CheckedReel`] is a file that was checked, and gives its frames; a
 //! [`Player`] plays it after a clock, and [`replay`] says what recorded readings of that clock showed. One frame is
-//! read, written and rewritten by [`read_frame`], [`write_frame`] and [`rewrite_frame`]. What can't be done is
-//! [`Refused`], with its reason and place. No byte of a file is interpreted here: what a header says and where frames
-//! lie, [`Header::read`] and [`next_frame`] ask the codec.
+//! read, written and rewritten by [`read_frame`], [`write_frame`] and [`rewrite_frame`]. A [`TileMap`] says which tiles a
+//! panel has to redraw from one picture to the next. What can't be done is [`Refused`], with its reason and place. No
+//! byte of a file is interpreted here: what a header says and where frames lie, [`Header::read`] and [`next_frame`] ask
+//! the codec.
 //!
 //! The codec is `libcapi.a`, which `rt staticlib capi` makes; the environment's `FLIC_LIB_DIR` names the directory that
 //! holds it, if it isn't `target/staticlib` of the repository.
@@ -44,6 +45,7 @@ mod reel;
 mod refusal;
 mod row;
 mod state;
+mod tiles;
 mod trailer;
 
 pub use checked::{check_reel, CheckedReel, Frame, Laps};
@@ -57,4 +59,5 @@ pub use reel::{Reel, MOST_FRAMES};
 pub use refusal::{Refusal, Refused, Result};
 pub use row::{search_row, RowCost};
 pub use state::{Palette, Picture, Size, State, PALETTE};
+pub use tiles::{TileMap, TileRow, TILE};
 pub use trailer::{check_trailer, write_trailer, TRAILER_MOST};

@@ -1,6 +1,6 @@
 //! `flic info`: a file's header, and what its bytes are spent on.
 
-use super::Command;
+use super::{tiles, Command};
 use crate::tool::arguments::Arguments;
 use crate::tool::failure::Outcome;
 use crate::tool::progress::Progress;
@@ -16,7 +16,8 @@ pub const COMMAND: Command = Command {
     summary: "shows the header, and the bytes of each kind of chunk",
     about:
         "Prints the fields of the file header, then how many chunks of each kind there are and how many bytes they take.
-The bytes sum up to the file's. Of a refused FLC file the header is shown, if it is whole, with exit status 1.",
+The bytes sum up to the file's. The last line says what share of the tiles of a picture a frame redraws. Of a refused
+FLC file the header is shown, if it is whole, with exit status 1.",
     options: &[],
     run,
 };
@@ -32,7 +33,8 @@ fn run(arguments: Arguments) -> Outcome {
         say(&fields(&header))?;
     }
     let reel = refused::accepted(&file, &bytes, reel)?;
-    say(&table(&shares(&reel, &bytes), bytes.len()))
+    say(&table(&shares(&reel, &bytes), bytes.len()))?;
+    say(&format!("\na frame redraws {}: see flic tiles\n", tiles::share(&reel)))
 }
 
 fn fields(header: &StoredHeader) -> String {

@@ -8,6 +8,7 @@ mod list;
 mod play;
 mod replay;
 mod rewrite;
+mod tiles;
 mod trailer;
 
 use crate::tool::arguments::{Arguments, Opt};
@@ -26,13 +27,14 @@ pub struct Command {
     pub run: fn(Arguments) -> Outcome,
 }
 
-pub const ALL: [Command; 9] = [
+pub const ALL: [Command; 10] = [
     check::COMMAND,
     info::COMMAND,
     list::COMMAND,
     play::COMMAND,
     replay::COMMAND,
     frames::COMMAND,
+    tiles::COMMAND,
     build::COMMAND,
     rewrite::COMMAND,
     trailer::COMMAND,

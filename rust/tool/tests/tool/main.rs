@@ -11,5 +11,6 @@ mod play;
 mod replay;
 mod rewrite;
 mod samples;
+mod tiles;
 mod trailer;
 mod usage;

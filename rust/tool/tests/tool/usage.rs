@@ -4,7 +4,8 @@ use crate::bench::{Bench, Run};
 use crate::pictures::pictures;
 use std::fs::OpenOptions;
 
-const COMMANDS: [&str; 9] = ["check", "info", "list", "play", "replay", "frames", "build", "rewrite", "trailer"];
+const COMMANDS: [&str; 10] =
+    ["check", "info", "list", "play", "replay", "frames", "tiles", "build", "rewrite", "trailer"];
 
 #[test]
 fn help_for_the_tool_and_for_each_command() {
