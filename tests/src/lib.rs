@@ -12,6 +12,7 @@ pub mod rng;
 pub mod runner;
 pub mod sizes;
 pub mod states;
+pub mod tiles;
 pub mod trailers;
 pub mod ways;
 pub mod write_cases;

@@ -1,22 +1,22 @@
-//! The five test programs that compare single calls, each with its families and what it must meet.
+//! The six test programs that compare single calls, each with its families and what it must meet.
 
 use crate::model::{MAX_HEIGHT, MAX_WIDTH, PALETTE_BYTES};
 use crate::players::night::{kept_time, night, Night, NIGHT};
 use crate::rng::Rng;
 use crate::runner::calls::{
-    AddCase, CheckCase, CheckTrailerCase, CloseCase, HeaderCase, ListCase, OpenCase, ReadCase, ReplayCase, RewriteCase,
-    SearchCase, StartCase, StepCase, TickCase, WriteCase, WriteTrailerCase,
+    AddCase, CheckCase, CheckTrailerCase, CloseCase, HeaderCase, ListCase, MarkedCase, OpenCase, ReadCase, ReplayCase,
+    RewriteCase, SearchCase, StartCase, StepCase, TickCase, TileMapCase, WriteCase, WriteTrailerCase,
 };
 use crate::runner::command::fail;
 use crate::runner::compare::Comparer;
-use crate::runner::examples::{of_players, of_reading, of_reels, of_trailers, of_writing};
+use crate::runner::examples::{of_players, of_reading, of_reels, of_tiles, of_trailers, of_writing};
 use crate::runner::inputs::{listed, Case};
 use crate::runner::met::{AROUND, LIVE, PLAY};
 use crate::runner::program::Program;
 use crate::states::{picture, State};
 use crate::write_cases::{REWRITE_FAMILIES, SEARCH_FAMILIES, WRITE_FAMILIES};
-use crate::wrong::{seen_in_players, seen_in_reading, seen_in_reels, seen_in_trailers, seen_in_writing};
-use crate::{cases, huge, players, reels, trailers};
+use crate::wrong::{seen_in_players, seen_in_reading, seen_in_reels, seen_in_tiles, seen_in_trailers, seen_in_writing};
+use crate::{cases, huge, players, reels, tiles, trailers};
 use flic_boundary::FRAME_MOST;
 
 pub fn reading() -> Program {
@@ -96,6 +96,20 @@ pub fn players() -> Program {
         examples: of_players(),
         seen_wrongs: seen_in_players,
         besides: huge_reels_and_a_night,
+    }
+}
+
+pub fn tiles() -> Program {
+    Program {
+        name: "tiles",
+        unit: "calls",
+        base: 20_266,
+        families: listed(&tiles::families::FAMILIES),
+        least: 250_000,
+        rows: vec![&TileMapCase::ROW, &MarkedCase::ROW],
+        examples: of_tiles(),
+        seen_wrongs: seen_in_tiles,
+        besides: |_, _| {},
     }
 }
 
@@ -186,7 +200,7 @@ mod tests {
 
     #[test]
     fn everything_wrong_is_seen() {
-        for program in [reading(), writing(), reels(), trailers(), players()] {
+        for program in [reading(), writing(), reels(), trailers(), players(), tiles()] {
             assert_eq!(unseen(&(program.seen_wrongs)(7)), Vec::<&str>::new());
         }
     }
@@ -194,7 +208,7 @@ mod tests {
     #[test]
     fn the_model_agrees_with_itself_and_meets_every_answer() {
         let model = Comparer { subject: &MODEL, lender: &GuardBytes };
-        for program in [reading(), writing(), reels(), trailers(), players()] {
+        for program in [reading(), writing(), reels(), trailers(), players(), tiles()] {
             let mut met = Met::nothing(&program.rows);
             for family in &program.families {
                 for batch in 0..family.batches().div_ceil(20) {

@@ -2,12 +2,14 @@
 
 use super::case::Case;
 use super::guarded::GuardPages;
+use flic_tests::model::MAX_HEIGHT;
 use flic_tests::rng::{mix, Rng};
 use flic_tests::runner::calls::{
-    AddCase, Call, CheckCase, CheckTrailerCase, CloseCase, HeaderCase, ListCase, OpenCase, ReadCase, ReplayCase,
-    RewriteCase, SearchCase, StartCase, StepCase, TickCase, WriteCase, WriteTrailerCase, ROWS,
+    AddCase, Call, CheckCase, CheckTrailerCase, CloseCase, HeaderCase, ListCase, MarkedCase, OpenCase, ReadCase,
+    ReplayCase, RewriteCase, SearchCase, StartCase, StepCase, TickCase, TileMapCase, WriteCase, WriteTrailerCase, ROWS,
 };
 use flic_tests::runner::compare::{Comparer, Difference, Library};
+use flic_tests::states::State;
 
 /// The library, with slices against guard pages.
 pub const LIBRARY: Comparer = Comparer { subject: &Library, lender: &GuardPages(None) };
@@ -33,6 +35,9 @@ pub fn calls(case: &Case) -> Vec<(Box<dyn Call>, u64)> {
     let words = (readings.len() + case.frame_room % 8).saturating_sub(2);
     let numbers = (0..words).map(|word| mix(seeds[15], word as u64) as u32).collect();
     let (ticked, _) = state();
+    let (State { picture: old, .. }, State { picture: new, .. }) = state();
+    let tile_rows = height.min(MAX_HEIGHT).div_ceil(8) as usize;
+    let marks = (0..(tile_rows + case.frame_room % 8).saturating_sub(2)).map(|word| mix(seeds[16], word as u64));
     let calls: [Box<dyn Call>; ROWS.len()] = [
         Box::new(ReadCase { bytes: frame(), width, height, shown }),
         Box::new(WriteCase { width, height, previous, next, out: out(1, case.frame_room) }),
@@ -50,6 +55,8 @@ pub fn calls(case: &Case) -> Vec<(Box<dyn Call>, u64)> {
         Box::new(StartCase { bytes: bytes(), now: start, first: standing, second: beside }),
         Box::new(TickCase { player, bytes: bytes(), now, shown: ticked }),
         Box::new(ReplayCase { speed, frames: reel.frames, start, readings, numbers }),
+        Box::new(TileMapCase { width, height, previous: old, next: new, words: marks.collect() }),
+        Box::new(MarkedCase(seeds[17] & seeds[16] & seeds[15])),
     ];
     calls.into_iter().zip(seeds).collect()
 }

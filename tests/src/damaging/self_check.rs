@@ -9,7 +9,8 @@ use flic_tests::runner::compare::Comparer;
 use flic_tests::runner::lent::{Lender, Side};
 use flic_tests::runner::wrongs::{ignoring, models, Deed, Wrong};
 use flic_tests::wrong::{
-    of_frames, player_tellers, tellers, trespassers, Trespass, PLAYERS, READING, REELS, REWRITING, TRAILERS, WRITING,
+    map_tellers, of_frames, player_tellers, tellers, trespassers, Trespass, PLAYERS, READING, REELS, REWRITING, TILES,
+    TRAILERS, WRITING,
 };
 use std::os::unix::process::ExitStatusExt;
 use std::process::{Command, Stdio};
@@ -41,14 +42,14 @@ const BESIDE: [Trespass; 12] = [
 type Guarded = (Wrong, Option<Side>);
 
 fn all() -> Vec<Guarded> {
-    let trespasses = [&READING[..], &WRITING, &REWRITING, &REELS, &TRAILERS, &PLAYERS, &BESIDE].concat();
+    let trespasses = [&READING[..], &WRITING, &REWRITING, &REELS, &TRAILERS, &PLAYERS, &TILES, &BESIDE].concat();
     let sides = trespasses.iter().map(|(_, _, _, deed)| match deed {
         Deed::WritesBeside(Side::Before) => Some(Side::After),
         Deed::WritesBeside(Side::After) => Some(Side::Before),
         _ => None,
     });
     let mut all: Vec<Guarded> = trespassers(&trespasses).into_iter().zip(sides).collect();
-    let others = [tellers(), player_tellers(), ignoring(), models(of_frames(), &["read_frame"])];
+    let others = [tellers(), player_tellers(), map_tellers(), ignoring(), models(of_frames(), &["read_frame"])];
     all.extend(others.into_iter().flatten().map(|wrong| (wrong, None)));
     all
 }

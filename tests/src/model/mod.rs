@@ -10,6 +10,7 @@ pub mod file_header;
 pub mod listing;
 pub mod player;
 pub mod playing;
+pub mod tiles;
 pub mod top_level;
 pub mod trailer;
 
@@ -18,10 +19,11 @@ use check::Checking;
 use decode::Frames;
 use encode::House;
 use file_header::Headers;
-use flic_boundary::{Pair, PairMut, Player, Reel};
+use flic_boundary::{Pair, PairMut, Player, Reel, TileRow};
 use listing::Listings;
 use player::Players;
 use playing::Playing;
+use tiles::Tiles;
 use top_level::TopLevel;
 use trailer::Trailers;
 
@@ -48,6 +50,7 @@ pub struct Model {
     pub trailers: &'static dyn Trailers,
     pub listings: &'static dyn Listings,
     pub players: &'static dyn Players,
+    pub tiles: &'static dyn Tiles,
 }
 
 /// The oracle.
@@ -62,6 +65,7 @@ pub const MODEL: Model = Model {
     trailers: &Document,
     listings: &Document,
     players: &Document,
+    tiles: &Document,
 };
 
 /// The entry points.
@@ -150,6 +154,21 @@ impl Model {
         numbers: &mut [u32],
     ) -> Result<usize, Refusal> {
         self.players.replay(self, speed, frames, start, readings, numbers)
+    }
+
+    pub fn tile_map(
+        &self,
+        width: u64,
+        height: u64,
+        previous: &[u8],
+        next: &[u8],
+        words: &mut [u64],
+    ) -> Result<usize, Refusal> {
+        self.tiles.tile_map(width, height, previous, next, words)
+    }
+
+    pub fn marked_tiles(&self, word: u64) -> TileRow {
+        self.tiles.marked_tiles(word)
     }
 }
 

@@ -74,7 +74,7 @@ macro_rules! made {
 }
 
 /// The rows, in the order in which the damage test makes its calls.
-pub const ROWS: [&Row; 16] = [
+pub const ROWS: [&Row; 18] = [
     &ReadCase::ROW,
     &WriteCase::ROW,
     &RewriteCase::ROW,
@@ -91,6 +91,8 @@ pub const ROWS: [&Row; 16] = [
     &StartCase::ROW,
     &TickCase::ROW,
     &ReplayCase::ROW,
+    &TileMapCase::ROW,
+    &MarkedCase::ROW,
 ];
 
 /// A row of which no kinds are counted, and that lends bytes alone.
@@ -641,5 +643,61 @@ impl Call for ReplayCase {
 
     fn slices(&self) -> Vec<&[u8]> {
         vec![bytes_of(&self.readings), bytes_of(&self.numbers)]
+    }
+}
+
+/// flic_tile_map.
+#[derive(Clone, Debug, PartialEq, Eq)]
+pub struct TileMapCase {
+    pub width: u64,
+    pub height: u64,
+    pub previous: Vec<u8>,
+    pub next: Vec<u8>,
+    /// What the words hold before the call.
+    pub words: Vec<u64>,
+}
+
+impl TileMapCase {
+    pub const ROW: Row = Row {
+        function: "tile_map",
+        name: "tile map",
+        unit: "pictures",
+        lends: &["previous picture", "next picture", "words"],
+        aligned: &[1, 1, align_of::<u64>()],
+        numbers: &[0, 1, 2, 3],
+        ..PLAIN
+    };
+}
+
+impl Call for TileMapCase {
+    made!(self, [previous, next, words], tile_map(self.width, self.height, previous, next, values_in(words)));
+
+    fn handed(&self) -> String {
+        format!("{} by {}", self.width, self.height)
+    }
+
+    fn slices(&self) -> Vec<&[u8]> {
+        vec![&self.previous, &self.next, bytes_of(&self.words)]
+    }
+}
+
+/// flic_marked_tiles.
+#[derive(Clone, Debug, PartialEq, Eq)]
+pub struct MarkedCase(pub u64);
+
+impl MarkedCase {
+    pub const ROW: Row =
+        Row { function: "marked_tiles", name: "marked tiles of a word", unit: "words", numbers: &[0], ..PLAIN };
+}
+
+impl Call for MarkedCase {
+    made!(self, [], marked_tiles(self.0));
+
+    fn handed(&self) -> String {
+        format!("{:#018x}", self.0)
+    }
+
+    fn slices(&self) -> Vec<&[u8]> {
+        Vec::new()
     }
 }

@@ -1,8 +1,8 @@
 //! Document 01's numbers to try, and document 02's rules in numbers, as calls with their answers and all that they leave.
 
 use super::calls::{
-    AddCase, Call, CheckCase, CheckTrailerCase, CloseCase, HeaderCase, ListCase, OpenCase, ReadCase, ReplayCase,
-    RewriteCase, StartCase, StepCase, TickCase, WriteCase, WriteTrailerCase,
+    AddCase, Call, CheckCase, CheckTrailerCase, CloseCase, HeaderCase, ListCase, MarkedCase, OpenCase, ReadCase,
+    ReplayCase, RewriteCase, StartCase, StepCase, TickCase, TileMapCase, WriteCase, WriteTrailerCase,
 };
 use super::compare::Comparer;
 use super::lent::bytes_of;
@@ -13,7 +13,7 @@ use crate::model::{kind, PALETTE_BYTES};
 use crate::reels::examples::{blank_reel, zero_until_close, SPEED};
 use crate::states::State;
 use crate::trailers::examples::{BLANK_LISTING, BLANK_TRAILER};
-use flic_boundary::{Player, Reel};
+use flic_boundary::{Player, Reel, TileRow};
 
 /// A call, its answer, and what it leaves in its slices.
 pub struct Example {
@@ -421,6 +421,39 @@ pub fn of_players() -> Vec<Example> {
     ]
 }
 
+/// Req 07's rules in numbers.
+pub fn of_tiles() -> Vec<Example> {
+    let map = |name, (width, height): (usize, usize), changed: &[(usize, usize)], words: &[u64]| {
+        let previous = vec![FILL; width * height];
+        let mut next = previous.clone();
+        changed.iter().for_each(|(x, y)| next[y * width + x] ^= 1);
+        let case =
+            TileMapCase { width: width as u64, height: height as u64, previous, next, words: vec![9; words.len() + 1] };
+        let left = bytes_of(&[words, &[9]].concat()).to_vec();
+        Example::done(name, case, Rest::Length(words.len() as u64), &[(2, left)])
+    };
+    let few = TileMapCase { width: 1, height: 9, previous: vec![0; 9], next: vec![1; 9], words: vec![9] };
+    let marks = |name, word, count, first, last| {
+        Example::done(name, MarkedCase(word), Rest::Marks(TileRow { count, first, last }), &[])
+    };
+    vec![
+        map("equal pictures", (9, 9), &[], &[0, 0]),
+        map("a whole tile's last pixel", (16, 8), &[(7, 7)], &[1]),
+        map("the next tile's first pixel", (16, 8), &[(8, 7)], &[2]),
+        map("the next row's first pixel", (16, 16), &[(7, 8)], &[0, 1]),
+        map("a right tile of one column", (9, 1), &[(8, 0)], &[2]),
+        map("a bottom tile of one row", (1, 9), &[(0, 8)], &[0, 1]),
+        map("two pixels of one tile", (8, 8), &[(0, 0), (7, 7)], &[1]),
+        map("the last tile of the largest width", (320, 1), &[(319, 0)], &[1 << 39]),
+        Example::done("fewer words than tile rows", few, Rest::Length(0), &[]).refused(3, 0),
+        marks("a row without marks", 0, 0, 64, 64),
+        marks("tile 0 alone", 1, 1, 0, 0),
+        marks("the last bit alone", 1 << 63, 1, 63, 63),
+        marks("three of them", 0b1001_0100, 3, 2, 7),
+        marks("all", u64::MAX, 64, 0, 63),
+    ]
+}
+
 #[cfg(test)]
 mod tests {
     use super::*;
@@ -430,7 +463,7 @@ mod tests {
     #[test]
     fn the_model_does_as_the_documents_say() {
         let comparer = Comparer { subject: &MODEL, lender: &GuardBytes };
-        for examples in [of_reading(), of_writing(), of_reels(), of_trailers(), of_players()] {
+        for examples in [of_reading(), of_writing(), of_reels(), of_trailers(), of_players(), of_tiles()] {
             for example in examples {
                 assert_eq!(astray(&example, comparer, 1), None);
             }

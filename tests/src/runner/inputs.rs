@@ -1,8 +1,8 @@
 //! The inputs of a run: cases, each a call or some calls that belong together, and families that make them from seeds.
 
 use super::calls::{
-    AddCase, Call, CheckCase, CheckTrailerCase, CloseCase, HeaderCase, ListCase, OpenCase, ReadCase, ReplayCase,
-    RewriteCase, SearchCase, StartCase, StepCase, TickCase, WriteCase, WriteTrailerCase,
+    AddCase, Call, CheckCase, CheckTrailerCase, CloseCase, HeaderCase, ListCase, MarkedCase, OpenCase, ReadCase,
+    ReplayCase, RewriteCase, SearchCase, StartCase, StepCase, TickCase, TileMapCase, WriteCase, WriteTrailerCase,
 };
 use crate::rng::{mix, Rng};
 use crate::states::State;
@@ -64,6 +64,8 @@ cases! {
     Tick(TickCase),
     Replay(ReplayCase),
     Live(LiveCase),
+    TileMap(TileMapCase),
+    Marked(MarkedCase),
 }
 
 impl Case {
@@ -86,6 +88,8 @@ impl Case {
             Case::Start(call) | Case::Live(LiveCase { start: call, .. }) => call,
             Case::Tick(call) => call,
             Case::Replay(call) => call,
+            Case::TileMap(call) => call,
+            Case::Marked(call) => call,
             Case::Play(_) => return None,
         })
     }

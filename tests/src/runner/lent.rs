@@ -13,6 +13,8 @@ pub unsafe trait Plain {}
 
 // SAFETY: a number.
 unsafe impl Plain for u32 {}
+// SAFETY: a number.
+unsafe impl Plain for u64 {}
 // SAFETY: numbers side by side, with no gap between them or after them.
 unsafe impl Plain for Player {}
 const _: () = assert!(size_of::<Player>() == 6 * size_of::<u64>() + 2 * size_of::<u32>());

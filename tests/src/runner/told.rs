@@ -1,7 +1,7 @@
 //! What a call answers, whichever it is: the number and the place that all give, and what goes with them.
 
 use crate::model::{Event, FileHeader, Outcome, Refusal, Searched, Span as Chunk};
-use flic_boundary::{Answer, Header, Player, PlayerAnswer, Reel, ReelAnswer, RowCost, Span, Ticked, Written};
+use flic_boundary::{Answer, Header, Player, PlayerAnswer, Reel, ReelAnswer, RowCost, Span, Ticked, TileRow, Written};
 
 #[derive(Clone, Copy, Debug, PartialEq, Eq)]
 pub struct Told {
@@ -35,6 +35,8 @@ pub enum Rest {
     Player(Player),
     /// What a tick did.
     Event(u32),
+    /// The marked tiles of a word.
+    Marks(TileRow),
 }
 
 impl Told {
@@ -105,6 +107,12 @@ impl From<PlayerAnswer> for Told {
 impl From<Ticked> for Told {
     fn from(Ticked { number, place, event }: Ticked) -> Told {
         Told { number, place, rest: Rest::Event(event) }
+    }
+}
+
+impl From<TileRow> for Told {
+    fn from(row: TileRow) -> Told {
+        Told::done(Rest::Marks(row))
     }
 }
 

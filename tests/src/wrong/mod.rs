@@ -6,6 +6,7 @@ mod house;
 mod listings;
 mod players;
 mod reels;
+mod tiles;
 mod top_level;
 mod trailers;
 
@@ -19,6 +20,7 @@ use crate::runner::inputs::listed;
 use crate::runner::lent::{Lent, Side};
 use crate::runner::told::{Rest, Told};
 use crate::runner::wrongs::{models, see, Deed, Telling, Trespasser, Wrong};
+use crate::tiles::families as tile_families;
 use crate::trailers::families as trailer_families;
 use crate::write_cases::{REWRITE_FAMILIES, SEARCH_FAMILIES, SINGLE_REWRITES, SINGLE_WRITES, WRITE_FAMILIES};
 use flic_boundary::Player;
@@ -122,6 +124,15 @@ pub const PLAYERS: [Trespass; 14] = [
     ("a replay that writes after the numbers", "replay", "numbers", AFTER),
     ("a replay that changes a number when refused", "replay", "numbers", Deed::ChangesWhenRefused),
     ("a replay that changes a word past the numbers", "replay", "numbers", Deed::ChangesPast),
+];
+
+pub const TILES: [Trespass; 6] = [
+    ("a map that writes before the words", "tile_map", "words", BEFORE),
+    ("a map that writes after the words", "tile_map", "words", AFTER),
+    ("a map that changes the previous picture", "tile_map", "previous picture", Deed::Changes),
+    ("a map that changes the next picture", "tile_map", "next picture", Deed::Changes),
+    ("a map that changes a word when refused", "tile_map", "words", Deed::ChangesWhenRefused),
+    ("a map that changes a word past the tile rows", "tile_map", "words", Deed::ChangesPast),
 ];
 
 pub fn trespassers(all: &[Trespass]) -> Vec<Wrong> {
@@ -328,5 +339,23 @@ pub fn seen_in_players(base: u64) -> Vec<Wrong> {
     all.extend(trespassers(&PLAYERS));
     all.extend(player_tellers());
     see(&mut all, &listed(&player_families::FAMILIES[..player_families::SMALL]), 100, base);
+    all
+}
+
+/// A refused map that tells rows.
+pub fn map_tellers() -> Vec<Wrong> {
+    let mapped = |told: Told| match told.number {
+        3 => Told { rest: Rest::Length(1), ..told },
+        _ => told,
+    };
+    vec![Wrong::of("a refused map that tells rows", Telling { function: "tile_map", altered: mapped }, &["tile_map"])]
+}
+
+pub fn seen_in_tiles(base: u64) -> Vec<Wrong> {
+    let mut all = models(with!(tiles: tiles::MAPS), &["tile_map"]);
+    all.extend(models(with!(tiles: tiles::MARKS), &["marked_tiles"]));
+    all.extend(trespassers(&TILES));
+    all.extend(map_tellers());
+    see(&mut all, &listed(&tile_families::FAMILIES[..tile_families::SMALL]), 1_000, base);
     all
 }
