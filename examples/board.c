@@ -1,14 +1,22 @@
 /* A board in a window: plays a reel after SDL's clock, lap after lap, until the window is closed or q is pressed.
+ * A frame redraws only the tiles of 8 by 8 pixels in which it changes a pixel or its colour, as slow panels do.
  * A pixel is a square of SCALE by SCALE, 3 if none is given. Usage: board FILE [SCALE]
  *
  *     gcc -O2 -Iinclude -o board examples/board.c target/staticlib/libcapi.a $(sdl2-config --cflags --libs) */
 #include <SDL.h>
 #include <stdio.h>
 #include <stdlib.h>
+#include <string.h>
 
 #include "flic.h"
 
-static uint8_t picture[320 * 200], palette[768], second_picture[320 * 200], second_palette[768];
+#define TILE 8
+
+/* What each tick changes in place, and what the panel shows. */
+static uint8_t picture[320 * 200], palette[768], shown_picture[320 * 200], shown_palette[768];
+
+/* How many tiles the frames redrew, and how many they have. */
+static unsigned long redrawn, met;
 
 static int failed(const char *what)
 {
@@ -16,17 +24,59 @@ static int failed(const char *what)
     return 1;
 }
 
-/* Gives the picture's surface its colours, and shows it in the window, as large as that is. */
-static int show(SDL_Window *window, SDL_Surface *indexed)
+/* Draws a tile of the picture in the window, through a surface that has the window's colours. */
+static int draw_tile(SDL_Surface *indexed, SDL_Surface *coloured, SDL_Surface *screen, int scale, SDL_Rect tile)
 {
+    SDL_Rect same = tile, scaled = {tile.x * scale, tile.y * scale, tile.w * scale, tile.h * scale};
+    return SDL_BlitSurface(indexed, &tile, coloured, &same) == 0 &&
+           SDL_BlitScaled(coloured, &tile, screen, &scaled) == 0;
+}
+
+/* Draws the tiles that are marked in a word for each row of them. */
+static int draw_marked(SDL_Surface *indexed, SDL_Surface *coloured, SDL_Surface *screen, int scale, uint64_t *words)
+{
+    for (int y = 0; y < indexed->h; y += TILE) {
+        uint64_t word = words[y / TILE];
+        flic_tile_row row = flic_marked_tiles(word);
+        for (int i = (int)row.first; row.count != 0 && i <= (int)row.last; i++) {
+            int x = i * TILE, wide = SDL_min(TILE, indexed->w - x), high = SDL_min(TILE, indexed->h - y);
+            if ((word >> i & 1) == 0) continue;
+            if (!draw_tile(indexed, coloured, screen, scale, (SDL_Rect){x, y, wide, high})) return 0;
+        }
+    }
+    return 1;
+}
+
+/* Marks the tiles that differ from what the panel shows; a pixel whose colour changes is made to differ. */
+static void mark(int width, int height, uint64_t *words)
+{
+    for (int i = 0; i < width * height; i++)
+        if (memcmp(palette + 3 * picture[i], shown_palette + 3 * picture[i], 3) != 0)
+            shown_picture[i] = (uint8_t)~picture[i];
+    flic_tile_map(width, height, shown_picture, sizeof shown_picture, picture, sizeof picture, words, 25);
+    for (int j = 0; j < (height + TILE - 1) / TILE; j++) redrawn += flic_marked_tiles(words[j]).count;
+    met += (unsigned long)((width + TILE - 1) / TILE * ((height + TILE - 1) / TILE));
+}
+
+/* Shows the picture in the window: the tiles that a frame changed, or all of them. */
+static int show(SDL_Window *window, SDL_Surface *indexed, int scale, int all)
+{
+    uint64_t words[25];
+    if (all)
+        for (int j = 0; j < 25; j++) words[j] = ((uint64_t)1 << (indexed->w + TILE - 1) / TILE) - 1;
+    else
+        mark(indexed->w, indexed->h, words);
     SDL_Color colours[256];
     for (int i = 0; i < 256; i++)
         colours[i] = (SDL_Color){palette[3 * i], palette[3 * i + 1], palette[3 * i + 2], 255};
-    SDL_Surface *screen = SDL_GetWindowSurface(window), *shown = NULL;
-    int done = screen != NULL && SDL_SetPaletteColors(indexed->format->palette, colours, 0, 256) == 0 &&
-               (shown = SDL_ConvertSurface(indexed, screen->format, 0)) != NULL &&
-               SDL_BlitScaled(shown, NULL, screen, NULL) == 0 && SDL_UpdateWindowSurface(window) == 0;
-    SDL_FreeSurface(shown);
+    SDL_Surface *screen = SDL_GetWindowSurface(window), *coloured = NULL;
+    if (screen != NULL)
+        coloured = SDL_CreateRGBSurfaceWithFormat(0, indexed->w, indexed->h, 32, screen->format->format);
+    int done = coloured != NULL && SDL_SetPaletteColors(indexed->format->palette, colours, 0, 256) == 0 &&
+               draw_marked(indexed, coloured, screen, scale, words) && SDL_UpdateWindowSurface(window) == 0;
+    SDL_FreeSurface(coloured);
+    memcpy(shown_picture, picture, sizeof picture);
+    memcpy(shown_palette, palette, sizeof palette);
     return done;
 }
 
@@ -49,7 +99,7 @@ int main(int count, char **words)
 
     flic_player_answer start =
         flic_start_player(file, length, SDL_GetTicks(), picture, sizeof picture, palette, sizeof palette,
-                          second_picture, sizeof second_picture, second_palette, sizeof second_palette);
+                          shown_picture, sizeof shown_picture, shown_palette, sizeof shown_palette);
     flic_player player = start.player;
     flic_ticked ticked = {start.number, start.place, 1};
     SDL_Window *window = NULL;
@@ -63,12 +113,14 @@ int main(int count, char **words)
         if (indexed == NULL || window == NULL) return failed("no window");
     }
 
-    SDL_Event event = {0};
+    SDL_Event event = {.type = SDL_WINDOWEVENT};
     while (ticked.number == 0 && !is_end(&event)) {
-        if ((ticked.event == 1 || event.type == SDL_WINDOWEVENT) && !show(window, indexed)) return failed("no picture");
+        int all = event.type == SDL_WINDOWEVENT;
+        if ((ticked.event == 1 || all) && !show(window, indexed, scale, all)) return failed("no picture");
         if (!SDL_WaitEventTimeout(&event, 5)) event.type = 0;
         ticked = flic_tick(&player, file, length, SDL_GetTicks(), picture, sizeof picture, palette, sizeof palette);
     }
+    if (met != 0) printf("board: the frames redrew %lu of %lu tiles\n", redrawn, met);
     if (ticked.number != 0)
         fprintf(stderr, "board: %s: refused %u at offset %llu; flic check says what to do\n", words[1], ticked.number,
                 (unsigned long long)ticked.place);
