@@ -512,12 +512,53 @@ static void replay(const input *in)
         must(told[tick] == stood || told[tick] == follows(stood, frames), "a replay goes on to another frame");
 }
 
+/* A pixel whose tile isn't marked must be the same in both pictures, and a marked tile have one that isn't. */
+static void marks_hold(const input *in, const lent *previous, const lent *next, const uint64_t *words)
+{
+    uint64_t wanted[25] = {0};
+    for (size_t y = 0; y < in->height; y++)
+        for (size_t x = 0; x < in->width; x++)
+            if (previous->bytes[y * in->width + x] != next->bytes[y * in->width + x])
+                wanted[y / 8] |= (uint64_t)1 << x / 8;
+    for (size_t j = 0; j < (in->height + 7) / 8; j++) {
+        flic_tile_row row = flic_marked_tiles(words[j]);
+        must(words[j] == wanted[j], "a tile map marks other tiles");
+        must(words[j] ? words[j] >> row.first & words[j] >> row.last & 1 : row.first == 64 && row.last == 64,
+             "the first or the last marked tile isn't marked");
+        must(row.count <= (words[j] ? row.last - row.first + 1 : 0), "more tiles are marked than there are");
+    }
+}
+
+static void tile_map(const input *in)
+{
+    static uint8_t content[PIXELS + 16];
+    pair shown = lend_pair(in, 0, 1);
+    size_t length = some_length(in, pixels_of(in), 2), rows = (in->height + 7) / 8;
+    size_t count = in->choices[ROOM] < 128 ? (rows > 25 ? 25 : rows) + in->choices[ROOM] % 3 : in->choices[ROOM] - 128u;
+    memcpy(content, shown.picture.bytes, shown.picture.length < length ? shown.picture.length : length);
+    for (size_t i = 0; i + 1 < in->length && length; i += 2)
+        content[word(in->bytes + i) % length] ^= in->bytes[i + 1];
+    lent next = lend_next(content, length), words = lend_next(NULL, count * sizeof(uint64_t));
+    flic_written mapped = flic_tile_map(in->width, in->height, shown.picture.bytes, shown.picture.length, next.bytes,
+                                        next.length, (uint64_t *)(void *)words.bytes, count);
+    meet(15, mapped.number, mapped.length);
+    int is_size = in->width >= 1 && in->width <= 320 && in->height >= 1 && in->height <= 200;
+    int is_short = shown.picture.length < pixels_of(in) || next.length < pixels_of(in);
+    must(mapped.number == (!is_size ? 2 : is_short ? 1 : count < rows ? 3 : 0) && mapped.place == 0,
+         "a tile map gives another refusal");
+    must(mapped.length == (mapped.number ? 0 : rows), "a tile map tells another length");
+    must(pair_unchanged(&shown) && unchanged(&next), "a tile map changed a picture");
+    must(unchanged_from(&words, (size_t)mapped.length * sizeof(uint64_t)), "a tile map changed other words");
+    if (mapped.number == 0)
+        marks_hold(in, &shown.picture, &next, (const uint64_t *)(const void *)words.bytes);
+}
+
 int LLVMFuzzerTestOneInput(const uint8_t *data, size_t size)
 {
     static void (*const entries[])(const input *) = {read_frame,    write_frame,   rewrite_frame, check_reel,
                                                      open_reel,     add_frame,     close_reel,    check_trailer,
                                                      write_trailer, list,          read_header,   next_frame,
-                                                     start_player,  tick,          replay};
+                                                     start_player,  tick,          replay,        tile_map};
     if (size < CHOICES || size - CHOICES > MOST)
         return 0;
     input in = {data, data + CHOICES, size - CHOICES, data[WIDTH], data[HEIGHT], data + CHOICES, size - CHOICES};
