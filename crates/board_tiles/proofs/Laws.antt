@@ -1,17 +1,17 @@
 -- Laws of `any`, of tiles and of the map's refusals.
 use mathlib.Core.Path.{_≡_, refl, sym, ap, ap₂, _∙_}
 use mathlib.Core.List.{List, [], _∷_}
-use mathlib.Core.Bool.{Bool, true, false, not, _||_, _&&_}
-use Prim.Native.Nat.{ℕ, zero, suc, _+_, _-_, _*_, _/_, _%_, _≤_, _<_}
+use mathlib.Core.Bool.{Bool, true, false, _||_}
+use Prim.Native.Nat.{ℕ, zero, suc, _+_, _-_, _*_, _≤_, _<_}
 use native.Mathlib.Omega.{arith}
 use borrow.Author.Tests.{lt-ltb, le-ltb, le-leb, lt-leb, leb-true, leb-false}
-use lib.Dec.{eqb, ltb, leb}
-use lib.ListN.{length, getD}
+use lib.Dec.{leb}
+use lib.ListN.{length}
 use Rattle.words.proofs.Tests.{by-test}
 use Rattle.format.specs.Limits.{sizeOk}
 use Rattle.answer.specs.declared.Refusal.the-variants.{ShortSlice, BadSize}
 use Rattle.state.specs.Outcome.{lentBytes, refuse, fitted}
-use Rattle.board_tiles.specs.Tiles.{TILE, tiles, any, changed, changedAt, tileChanged}
+use Rattle.board_tiles.specs.Tiles.{any, changed, changedAt}
 use Rattle.board_tiles.specs.Mapping.{tileWord, wordsFrom, tileWords, tileMap}
 
 -- any

@@ -8,7 +8,6 @@ use native.Mathlib.Numerals.{one-add}
 use lib.Dec.{lit<, eqb}
 use lib.Pow.{pow-pos, pow-mono, mod-pow-add}
 use lib.Count.{ones, ones-cat, trailingZeros, trailing-of-zero, under, leadingZeros, leading-unique}
-use borrow.Author.Tests.{ne-eqb, eq-eqb}
 use Rattle.board_tiles.specs.Marks.{BITS, bit, wordOf, marked, countOf, firstFrom, lastOf}
 
 bit-lt : (b : Bool) → bit b < 2

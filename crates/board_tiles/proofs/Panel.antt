@@ -5,7 +5,7 @@ use mathlib.Core.Path.{_≡_, refl, sym, ap, ap₂, _∙_}
 use mathlib.Core.List.{List, [], _∷_, _++_}
 use mathlib.Core.Bool.{Bool, true, false, not, cond, _&&_, _||_}
 use native.Mathlib.Omega.{arith}
-use native.Mathlib.Nat.{add-suc, mul-comm, mul-suc, mul-zero, mul-add-div, mul-add-mod-self-left, div-eq-of-lt, mod-eq-of-lt, div-add-mod', mod-lt, div-lt-iff-lt-mul}
+use native.Mathlib.Nat.{mul-comm, mul-suc, mul-zero, mul-add-div, mul-add-mod-self-left, div-eq-of-lt, mod-eq-of-lt, div-add-mod', mod-lt, div-lt-iff-lt-mul}
 use borrow.Author.Tests.{leb-true, leb-false, ltb-true, ltb-false, eq-eqb, eqb-true, eqb-false}
 use lib.Count.{trailingZeros, trailing-of-zero}
 use lib.Dec.{eqb, leb, ltb}
@@ -15,9 +15,8 @@ use Rattle.words.specs.Writes.{put}
 use Rattle.words.proofs.Tests.{by-test, both-true}
 use Rattle.format.specs.Limits.{sizeOk, Sized}
 use Rattle.format.proofs.Laws.{size-in}
-use Rattle.answer.specs.Answer.{done, refused, number}
-use Rattle.answer.specs.declared.Refusal.the-variants.{ShortSlice, BadSize, NoRoom}
-use Rattle.state.specs.Outcome.{Outcome, lentBytes, leaves, refuse, fitted}
+use Rattle.answer.specs.Answer.{done}
+use Rattle.state.specs.Outcome.{Outcome, lentBytes, leaves}
 use Rattle.state.proofs.Laws.{passed}
 use Rattle.board_tiles.specs.Tiles.{TILE, tiles, any, changed, changedAt, tileChanged}
 use Rattle.board_tiles.specs.Marks.{BITS, bit, wordOf, marked, countOf, firstFrom, lastOf, tileRow}

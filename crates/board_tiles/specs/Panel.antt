@@ -4,7 +4,6 @@ use mathlib.Core.List.{List, [], _∷_}
 use mathlib.Core.Path.{_≡_}
 use mathlib.Core.Bool.{true, false, cond}
 use lib.ListN.{getD, take, drop, replicate}
-use Rattle.state.specs.Outcome.{Outcome}
 use Rattle.board_tiles.specs.Tiles.{TILE, tiles, changed, tileChanged}
 use Rattle.board_tiles.specs.Marks.{marked, countOf, tileRow}
 use Rattle.board_tiles.specs.Mapping.{tileMap}

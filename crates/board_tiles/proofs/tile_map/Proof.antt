@@ -1,20 +1,17 @@
+-- `tile_map` meets its contract: the checks stand in the order of the paper, and the words are stored only where all held.
 use borrow.Author.Tests.{not-true, not-false}
 use native.Mathlib.Omega.{arith}
-use mathlib.Core.Bool.{true, false}
+use mathlib.Core.Bool.{true}
 use mathlib.Core.Path.{_≡_, sym, _∙_}
-use Rattle.board_tiles.specs.Mapping.{tileWords}
-use Rattle.board_tiles.specs.Tiles.{tiles}
+use borrow.Author.Needs.{needs}
 use Rattle.state.proofs.Laws.{fitted-none, fitted-whole}
 use Rattle.format.proofs.Laws.{size-in}
 use Rattle.format.specs.Limits.{sizeOk, Sized}
+use Rattle.board_tiles.specs.Mapping.{tileWords}
+use Rattle.board_tiles.specs.Tiles.{tiles}
 use Rattle.board_tiles.proofs.Laws.{map-size, map-previous, map-next, map-fitted, length-words}
-use borrow.Author.Needs.{needs}
 use Rattle.board_tiles.proofs.tile_map.Statement.{statement}
 use Rattle.board_tiles.proofs.tile_map.Tie as tie
-use Rattle.board_tiles.proofs.tile_map.Reads as reads
-use Rattle.board_tiles.proofs.tile_map.Lts as lts
-use Rattle.board_tiles.proofs.store_words.Reads as store-words-reads
-use Rattle.format.proofs.size_ok.Reads as size-ok-reads
 
 -- the size is in range
 sized : (c : tie.Else1) → let a = c .before .before .before .before .before .args in sizeOk (a .width) (a .height) ≡ true
