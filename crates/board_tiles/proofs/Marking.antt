@@ -8,7 +8,8 @@ use native.Mathlib.Numerals.{one-add}
 use lib.Dec.{lit<, eqb}
 use lib.Pow.{pow-pos, pow-mono, mod-pow-add}
 use lib.Count.{ones, ones-cat, trailingZeros, trailing-of-zero, under, leadingZeros, leading-unique}
-use Rattle.board_tiles.specs.Marks.{BITS, bit, wordOf, marked, countOf, firstFrom, lastOf}
+use Rattle.board_tiles.specs.Marks.{BITS, bit, wordOf, marked, countOf, firstFrom, lastOf, tileRow}
+use Rattle.board_tiles.specs.declared.TileRow.{TileRow}
 
 bit-lt : (b : Bool) → bit b < 2
 bit-lt true = lit< tt
@@ -169,6 +170,17 @@ module _ (w : ℕ) (small : w < 2 ^ 64) where
 
   pub leading-last : 0 < w → leadingZeros BITS w + suc (lastOf (marked w) BITS) ≡ BITS
   leading-last h = ap (λ (x : ℕ). leadingZeros BITS x + suc (lastOf (marked w) BITS)) (sym whole) ∙ last-under (marked w) BITS (omega arith) (omega (arith, whole))
+
+-- tileRow, by its fields
+
+abbrev rowOf : ℕ → ℕ → ℕ → TileRow
+rowOf count first last = record { count = count; first = first; last = last }
+
+pub row-is : (w count first last : ℕ) → count ≡ countOf (marked w) BITS → first ≡ firstFrom (marked w) BITS 0 → last ≡ lastOf (marked w) BITS
+    → rowOf count first last ≡ tileRow w
+unfolding tileRow
+row-is w count first last c f l =
+    ap₂ (λ (x y : ℕ). rowOf x y last) c f ∙ ap (rowOf (countOf (marked w) BITS) (firstFrom (marked w) BITS 0)) l
 
 -- the loop from the last tile to the first: the word of the tiles from i on
 pub record Spelling (P : ℕ → Bool) (count w i : ℕ) : Type 0 where
