@@ -13,6 +13,78 @@
 extern "C" {
 #endif
 
+/* The version of this header and of the library that goes with it: 10000 * 0 + 100 * 1 + 0. */
+#define FLIC_VERSION "0.1.0"
+#define FLIC_VERSION_NUMBER 100
+
+/* Limits: a picture is 1 to 320 by 1 to 200, a reel has 1 to 4,000 frames and then the ring. */
+#define FLIC_WIDTH_MOST 320
+#define FLIC_HEIGHT_MOST 200
+#define FLIC_PIXELS_MOST 64000
+#define FLIC_FRAMES_MOST 4000
+/* The bytes of a palette: red, green and blue of 256 entries. */
+#define FLIC_PALETTE 768
+/* The bytes of a file header, behind which the first chunk begins. */
+#define FLIC_FILE_HEADER 128
+/* No frame that is written has more bytes: an output of this length is never refused FLIC_NO_ROOM. */
+#define FLIC_FRAME_MOST 65310
+/* No index and trailer have more bytes. */
+#define FLIC_TRAILER_MOST 16012
+/* A file of more bytes isn't listed, and no listing has more bytes than FLIC_LIST_MOST. */
+#define FLIC_LISTED_MOST 65536
+#define FLIC_LIST_MOST 218047
+
+/* What a number says, in every answer: done, or a refusal under its name in docs/REFUSALS.md. */
+enum {
+    FLIC_DONE = 0,
+    FLIC_SHORT_SLICE = 1,
+    FLIC_BAD_SIZE = 2,
+    FLIC_NO_ROOM = 3,
+    FLIC_CUT = 4,
+    FLIC_WRONG_TYPE = 5,
+    FLIC_SMALL_SIZE = 6,
+    FLIC_BODY_ENDS = 7,
+    FLIC_ZERO_COUNT = 8,
+    FLIC_PAST_WIDTH = 9,
+    FLIC_PAST_HEIGHT = 10,
+    FLIC_BAD_WORD = 11,
+    FLIC_PAST_PALETTE = 12,
+    FLIC_OVER_LEVEL = 13,
+    FLIC_BAD_HEADER = 14,
+    FLIC_FEW_FRAMES = 15,
+    FLIC_BAD_RING = 16,
+    FLIC_BAD_TRAILER = 17,
+    FLIC_WRONG_TIME = 18,
+    FLIC_SPARE_BYTES = 19,
+};
+
+/* What a number means, in words; an empty text for a number that no call gives. */
+static inline const char *flic_meaning(uint32_t number) {
+    switch (number) {
+    case FLIC_DONE: return "done";
+    case FLIC_SHORT_SLICE: return "a picture has fewer pixels than width times height, or a palette fewer than 768 bytes";
+    case FLIC_BAD_SIZE: return "the width isn't 1 to 320, the height isn't 1 to 200, or two pictures differ in size";
+    case FLIC_NO_ROOM: return "there is no room for what is to be written";
+    case FLIC_CUT: return "the bytes end too soon, or a size runs past what encloses it";
+    case FLIC_WRONG_TYPE: return "this isn't a FLC file, or not a frame of one";
+    case FLIC_SMALL_SIZE: return "a size is less than its own header";
+    case FLIC_BODY_ENDS: return "a chunk ends before its data";
+    case FLIC_ZERO_COUNT: return "a BRUN packet has count 0";
+    case FLIC_PAST_WIDTH: return "a packet runs past the right edge";
+    case FLIC_PAST_HEIGHT: return "a row lies below the picture";
+    case FLIC_BAD_WORD: return "a delta chunk holds a word that has no meaning there";
+    case FLIC_PAST_PALETTE: return "a colour packet runs past entry 255";
+    case FLIC_OVER_LEVEL: return "a colour level is over 63";
+    case FLIC_BAD_HEADER: return "the depth isn't 8, the frames aren't 1 to 4,000, or the file was never closed";
+    case FLIC_FEW_FRAMES: return "frames or the ring are missing";
+    case FLIC_BAD_RING: return "the ring doesn't lead back to frame 1";
+    case FLIC_BAD_TRAILER: return "what stands behind the reel isn't its trailer";
+    case FLIC_WRONG_TIME: return "a reel takes 1 to 4,000 frames, and is closed once";
+    case FLIC_SPARE_BYTES: return "more than one spare byte stands behind a chunk's data";
+    default: return "";
+    }
+}
+
 /* number 0: done. Otherwise a refusal's number and its place, an offset into the bytes handed in;
  * a refusal leaves all lent memory as it was, but for the working pairs of flic_check_reel (see there). */
 typedef struct {
@@ -28,9 +100,6 @@ flic_answer flic_read_frame(const uint8_t *bytes, size_t bytes_len,
                             uint64_t width, uint64_t height,
                             uint8_t *picture, size_t picture_len,
                             uint8_t *palette, size_t palette_len);
-
-/* No frame that is written has more bytes: an output of this length is never refused 3. */
-#define FLIC_FRAME_MOST 65310
 
 /* number 0: done, with how many bytes were written; the rest of the output stays as it was.
  * A refusal has length 0 and leaves all lent memory as it was, but for a rewrite's working pair (see below). */
@@ -131,10 +200,7 @@ flic_answer flic_check_trailer(const uint8_t *bytes, size_t bytes_len);
  * Done gives the file's new length: the reel's size, 4 bytes for each frame and the ring, and 8. */
 flic_written flic_write_trailer(uint8_t *bytes, size_t bytes_len);
 
-/* No listing has more bytes: an output of this length is never refused 3. */
-#define FLIC_LIST_MOST 218047
-
-/* Lists the chunks of a reel of at most 65,536 bytes as text, one line each with depth, offset, kind and size; of a
+/* Lists the chunks of a reel of at most 65,536 bytes (FLIC_LISTED_MOST) as text, one line each with depth, offset, kind and size; of a
  * file that can't be listed the text is the one line `refused N PLACE`. Done gives the text's length; there is no byte
  * of 0 behind it. */
 flic_written flic_list(const uint8_t *bytes, size_t bytes_len, uint8_t *out, size_t out_len);

@@ -1,6 +1,8 @@
 //! The C boundary of the codec, as include/flic.h has it: its types, its functions, and all the unsafe code that calls
-//! them, which hands over whole slices. The few calls of the system that the tool needs of a terminal stand apart.
+//! them, which hands over whole slices. The few calls of the system that the tool needs of a terminal and of files stand
+//! apart.
 
+pub mod files;
 pub mod terminal;
 
 use std::borrow::Cow;

@@ -6,6 +6,7 @@ use crate::frame::read_frame;
 use crate::header::Header;
 use crate::refusal::Result;
 use crate::state::{Size, State};
+use std::borrow::Cow;
 
 /// Checks a whole reel: plays every frame and the ring, and refuses a ring that doesn't lead back to frame 1.
 /// What stands behind the reel is looked at by [`check_trailer`](crate::check_trailer).
@@ -17,7 +18,8 @@ pub fn check_reel(bytes: &[u8]) -> Result<()> {
     boundary::check_reel(bytes, first.lent_mut(), second.lent_mut())
 }
 
-/// A reel that the check accepted, so that every lap shows the same.
+/// A reel that the check accepted, so that every lap shows the same. Its bytes are borrowed, or its own: a
+/// `CheckedReel<'static>` made of a `Vec<u8>` can be kept and handed on.
 ///
 /// ```
 /// use flic::{CheckedReel, Reel, Size, State};
@@ -37,30 +39,41 @@ pub fn check_reel(bytes: &[u8]) -> Result<()> {
 ///
 /// let order: Vec<(usize, usize)> = reel.laps().take(5).map(|frame| (frame.lap, frame.number)).collect();
 /// assert_eq!(order, [(1, 1), (1, 2), (1, 3), (2, 2), (2, 3)]);
+///
+/// let owned: CheckedReel<'static> = CheckedReel::new(bytes)?;
+/// assert_eq!(owned.bytes().len(), owned.header().size as usize);
 /// # Ok::<(), flic::Refused>(())
 /// ```
 #[derive(Clone, Debug)]
 pub struct CheckedReel<'a> {
-    bytes: &'a [u8],
+    bytes: Cow<'a, [u8]>,
     header: Header,
     size: Size,
     frames: Vec<Chunk>,
 }
 
 impl<'a> CheckedReel<'a> {
-    /// Checks the reel as [`check_reel`] does.
-    pub fn new(bytes: &'a [u8]) -> Result<CheckedReel<'a>> {
-        check_reel(bytes)?;
-        let header = Header::read(bytes)?;
+    /// Checks the reel as [`check_reel`] does. The bytes are a slice, or a vector that the reel then owns.
+    pub fn new(bytes: impl Into<Cow<'a, [u8]>>) -> Result<CheckedReel<'a>> {
+        let bytes = bytes.into();
+        check_reel(&bytes)?;
+        let header = Header::read(&bytes)?;
         let size = Size::new(header.width, header.height)?;
-        let frames = frame_chunks(bytes, &header).collect();
+        let frames = frame_chunks(&bytes, &header).collect();
         Ok(CheckedReel { bytes, header, size, frames })
     }
 
+    /// The bytes that were checked, with whatever stands behind the reel.
+    pub fn bytes(&self) -> &[u8] {
+        &self.bytes
+    }
+
+    /// What the file header says.
     pub fn header(&self) -> &Header {
         &self.header
     }
 
+    /// The width and height of every picture.
     pub fn size(&self) -> Size {
         self.size
     }
@@ -70,7 +83,7 @@ impl<'a> CheckedReel<'a> {
         &self.frames
     }
 
-    /// One lap: every frame, then the ring.
+    /// One lap: every frame, then the ring, each with a state of its own; [`Laps::advance`] lends it instead.
     pub fn frames(&self) -> impl Iterator<Item = Frame> + '_ {
         self.laps().take(self.frames.len())
     }
@@ -88,13 +101,31 @@ pub struct Frame {
     pub lap: usize,
     /// Counted from 1; the ring has the number after the last frame's.
     pub number: usize,
+    /// Whether it is the ring, which shows frame 1 again.
     pub is_ring: bool,
+    /// Where it lies in the file.
     pub chunk: Chunk,
     /// What shows from this frame on.
     pub state: State,
 }
 
-/// A reel being played, from [`CheckedReel::laps`].
+/// A frame as it is played, what it shows being lent.
+#[derive(Clone, Copy, Debug, PartialEq, Eq)]
+pub struct Shown<'a> {
+    /// Counted from 1.
+    pub lap: usize,
+    /// Counted from 1; the ring has the number after the last frame's.
+    pub number: usize,
+    /// Whether it is the ring, which shows frame 1 again.
+    pub is_ring: bool,
+    /// Where it lies in the file.
+    pub chunk: Chunk,
+    /// What shows from this frame on.
+    pub state: &'a State,
+}
+
+/// A reel being played, from [`CheckedReel::laps`]: an iterator, whose frames have states of their own, or step by step
+/// with [`advance`](Laps::advance), which copies nothing.
 #[derive(Clone, Debug)]
 pub struct Laps<'a> {
     reel: &'a CheckedReel<'a>,
@@ -103,16 +134,42 @@ pub struct Laps<'a> {
     number: usize,
 }
 
-impl Iterator for Laps<'_> {
-    type Item = Frame;
-
-    fn next(&mut self) -> Option<Frame> {
+impl Laps<'_> {
+    /// Plays the next frame, and lends what shows then.
+    ///
+    /// ```
+    /// use flic::{CheckedReel, Reel, Size, State};
+    /// # let size = Size::new(8, 1)?;
+    /// # let mut reel = Reel::open(size, 200)?;
+    /// # let mut state = State::blank(size);
+    /// # for pixel in [10, 20] {
+    /// #     state.picture.pixels_mut().fill(pixel);
+    /// #     reel.add(&state)?;
+    /// # }
+    /// # let bytes = reel.close()?;
+    /// // Two frames, of pixels 10 and 20.
+    /// let reel = CheckedReel::new(&bytes)?;
+    /// let mut laps = reel.laps();
+    /// let pixels: Vec<u8> = (0..5).map(|_| laps.advance().state.picture.pixels()[0]).collect();
+    /// assert_eq!(pixels, [10, 20, 10, 20, 10]);
+    /// # Ok::<(), flic::Refused>(())
+    /// ```
+    pub fn advance(&mut self) -> Shown<'_> {
         let (lap, number, ring) = (self.lap, self.number, self.reel.frames.len());
         let chunk = self.reel.frames[number - 1];
         read_frame(&self.reel.bytes[chunk.offset..chunk.end()], &mut self.state)
             .expect("a checked reel's frames are accepted in every lap");
         (self.lap, self.number) = if number == ring { (lap + 1, ring.min(2)) } else { (lap, number + 1) };
-        Some(Frame { lap, number, is_ring: number == ring, chunk, state: self.state.clone() })
+        Shown { lap, number, is_ring: number == ring, chunk, state: &self.state }
+    }
+}
+
+impl Iterator for Laps<'_> {
+    type Item = Frame;
+
+    fn next(&mut self) -> Option<Frame> {
+        let Shown { lap, number, is_ring, chunk, state } = self.advance();
+        Some(Frame { lap, number, is_ring, chunk, state: state.clone() })
     }
 }
 
@@ -153,6 +210,19 @@ mod tests {
                 assert_eq!(frame.state, states[(frame.number - 1) % states.len()], "{count}: {}", frame.number);
             }
         }
+        Ok(())
+    }
+
+    #[test]
+    fn a_reel_that_owns_its_bytes_lends_the_same_frames() -> Result<()> {
+        let bytes = built(&states(3));
+        let owned: CheckedReel<'static> = CheckedReel::new(bytes.clone())?;
+        let (borrowed, mut laps) = (CheckedReel::new(&bytes)?, owned.laps());
+        for frame in borrowed.laps().take(10) {
+            let Shown { lap, number, is_ring, chunk, state } = laps.advance();
+            assert_eq!(Frame { lap, number, is_ring, chunk, state: state.clone() }, frame);
+        }
+        assert_eq!((owned.bytes(), borrowed.bytes()), (&bytes[..], &bytes[..]));
         Ok(())
     }
 

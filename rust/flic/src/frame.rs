@@ -39,7 +39,9 @@ pub fn write_frame(previous: &State, next: &State) -> Result<Vec<u8>> {
 /// A frame in house form, and what shows after it.
 #[derive(Clone, Debug, PartialEq, Eq)]
 pub struct Rewritten {
+    /// The frame chunk.
     pub frame: Vec<u8>,
+    /// What shows after it.
     pub next: State,
 }
 

@@ -13,7 +13,9 @@ pub struct Header {
     pub size: u32,
     /// How many frames there are, the ring not counted.
     pub frames: u16,
+    /// The pixels of a row.
     pub width: u16,
+    /// The rows.
     pub height: u16,
     /// For how many milliseconds a frame shows.
     pub speed: u32,

@@ -32,6 +32,7 @@
 //! ```
 
 #![forbid(unsafe_code)]
+#![deny(missing_docs)]
 
 mod boundary;
 mod checked;
@@ -48,7 +49,7 @@ mod state;
 mod tiles;
 mod trailer;
 
-pub use checked::{check_reel, CheckedReel, Frame, Laps};
+pub use checked::{check_reel, CheckedReel, Frame, Laps, Shown};
 pub use chunk::{next_frame, Chunk};
 pub use frame::{read_frame, rewrite_frame, write_frame, Rewritten};
 pub use header::{Header, FILE_HEADER};
@@ -61,3 +62,37 @@ pub use row::{search_row, RowCost};
 pub use state::{Palette, Picture, Size, State, PALETTE};
 pub use tiles::{TileMap, TileRow, TILE};
 pub use trailer::{check_trailer, write_trailer, TRAILER_MOST};
+
+#[cfg(test)]
+mod tests {
+    use super::*;
+
+    #[test]
+    fn the_limits_are_those_of_the_header_for_c() {
+        let header = include_str!("../../../include/flic.h");
+        let largest = Size::new(320, 200).expect("a size that is taken");
+        let limits = [
+            ("FLIC_WIDTH_MOST", largest.width().into()),
+            ("FLIC_HEIGHT_MOST", largest.height().into()),
+            ("FLIC_PIXELS_MOST", largest.pixels()),
+            ("FLIC_FRAMES_MOST", MOST_FRAMES),
+            ("FLIC_PALETTE", PALETTE),
+            ("FLIC_FILE_HEADER", FILE_HEADER),
+            ("FLIC_TRAILER_MOST", TRAILER_MOST),
+            ("FLIC_LISTED_MOST", LISTED_MOST),
+        ];
+        for (name, limit) in limits {
+            assert!(header.contains(&format!("\n#define {name} {limit}\n")), "{name} {limit}");
+        }
+        assert!(Size::new(largest.width() + 1, 1).is_err() && Size::new(1, largest.height() + 1).is_err());
+    }
+
+    #[test]
+    fn the_version_is_that_of_the_header_for_c() {
+        let header = include_str!("../../../include/flic.h");
+        assert!(header.contains(concat!("\n#define FLIC_VERSION \"", env!("CARGO_PKG_VERSION"), "\"\n")));
+        let parts: Vec<u32> = env!("CARGO_PKG_VERSION").split('.').map(|part| part.parse().unwrap()).collect();
+        let number = 10_000 * parts[0] + 100 * parts[1] + parts[2];
+        assert!(header.contains(&format!("\n#define FLIC_VERSION_NUMBER {number}\n")));
+    }
+}

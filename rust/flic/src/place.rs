@@ -10,12 +10,16 @@ use std::fmt;
 /// The part of a reel in which something was refused.
 #[derive(Clone, Copy, Debug, PartialEq, Eq)]
 pub enum Part {
+    /// The file header.
     Header,
-    /// Counted from 1.
+    /// A frame.
     Frame {
+        /// Counted from 1.
         number: usize,
+        /// How many frames there are, the ring not counted.
         of: usize,
     },
+    /// The ring.
     Ring,
     /// Behind the reel.
     Trailer,

@@ -40,6 +40,7 @@ impl Reel {
         Ok(Reel { record, bytes, shown: State::blank(size) })
     }
 
+    /// The width and height of every picture.
     pub fn size(&self) -> Size {
         self.shown.size()
     }

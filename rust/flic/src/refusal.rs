@@ -9,25 +9,44 @@ use std::fmt;
 #[non_exhaustive]
 #[repr(u32)]
 pub enum Refusal {
+    /// A picture or palette that was lent is too short.
     ShortSlice = 1,
-    /// Given by this crate too where two states that belong together differ in size.
+    /// The width isn't 1 to 320, or the height not 1 to 200; given by this crate too where two states that belong
+    /// together differ in size.
     BadSize = 2,
+    /// The output is too short.
     NoRoom = 3,
+    /// The bytes end too soon, or a size runs past what encloses it.
     Cut = 4,
+    /// Not a FLC file, or not a frame of one.
     WrongType = 5,
+    /// A size is less than its own header.
     SmallSize = 6,
+    /// A chunk ends before its data.
     BodyEnds = 7,
+    /// A BRUN packet has count 0.
     ZeroCount = 8,
+    /// A packet runs past the right edge.
     PastWidth = 9,
+    /// A row lies below the picture.
     PastHeight = 10,
+    /// A word of a delta chunk has no meaning there.
     BadWord = 11,
+    /// A colour packet runs past entry 255.
     PastPalette = 12,
+    /// A colour level is over 63.
     OverLevel = 13,
+    /// The depth isn't 8, the frames aren't 1 to 4,000, or the flags aren't 3.
     BadHeader = 14,
+    /// Frames or the ring are missing.
     FewFrames = 15,
+    /// The ring doesn't lead back to frame 1.
     BadRing = 16,
+    /// What stands behind the reel isn't its trailer.
     BadTrailer = 17,
+    /// A frame is added to a closed or full reel, or a reel is closed empty or twice.
     WrongTime = 18,
+    /// More than one spare byte stands behind a chunk's data.
     SpareBytes = 19,
 }
 
@@ -132,8 +151,16 @@ impl fmt::Display for Refusal {
 /// let text = "refused 5 at offset 0: this isn't a FLC file, or not a frame of one; check which file it is";
 /// assert_eq!(refused.to_string(), text);
 /// ```
-#[derive(Clone, Copy, Debug, PartialEq, Eq, Hash)]
+///
+/// A program whose `main` gives it on with `?` prints the same words:
+///
+/// ```
+/// let refused = flic::check_reel(&[0; 200]).unwrap_err();
+/// assert_eq!(format!("{refused:?}"), refused.to_string());
+/// ```
+#[derive(Clone, Copy, PartialEq, Eq, Hash)]
 pub struct Refused {
+    /// What was wrong.
     pub refusal: Refusal,
     /// The offset, in the bytes handed in, of the chunk header at fault, or of where it should begin.
     pub place: u64,
@@ -142,6 +169,13 @@ pub struct Refused {
 impl fmt::Display for Refused {
     fn fmt(&self, f: &mut fmt::Formatter<'_>) -> fmt::Result {
         write!(f, "refused {} at offset {}: {}", self.refusal.number(), self.place, self.refusal)
+    }
+}
+
+/// What a `main` that ends with this error prints: the same as for whoever displays it.
+impl fmt::Debug for Refused {
+    fn fmt(&self, f: &mut fmt::Formatter<'_>) -> fmt::Result {
+        fmt::Display::fmt(self, f)
     }
 }
 
@@ -169,6 +203,28 @@ mod tests {
             let row = format!("| {} | {refusal:?} |", refusal.number());
             assert!(document.contains(&row), "docs/REFUSALS.md has no row that begins {row}");
         }
+    }
+
+    /// `BadRing` as `FLIC_BAD_RING`.
+    fn name_in_c(refusal: Refusal) -> String {
+        let mut name = "FLIC".to_string();
+        for letter in format!("{refusal:?}").chars() {
+            let gap = if letter.is_uppercase() { "_" } else { "" };
+            name += &format!("{gap}{}", letter.to_ascii_uppercase());
+        }
+        name
+    }
+
+    #[test]
+    fn the_header_for_c_has_the_same_numbers_and_words() {
+        let header = include_str!("../../../include/flic.h");
+        for refusal in Refusal::ALL {
+            let (name, number) = (name_in_c(refusal), refusal.number());
+            assert!(header.contains(&format!("\n    {name} = {number},\n")), "{name}");
+            assert!(header.contains(&format!("\n    case {name}: return \"{}\";\n", refusal.meaning())), "{name}");
+        }
+        let counted = header.matches(": return \"").count();
+        assert_eq!(counted, Refusal::ALL.len() + 2, "done, and numbers that no call gives");
     }
 
     #[test]

@@ -3,11 +3,12 @@
 use crate::boundary::{self, Pair, PairMut};
 use crate::header::FILE_HEADER;
 use crate::refusal::{Refusal, Refused, Result};
+use std::fmt;
 
 /// The bytes of a palette: red, green and blue of 256 entries.
 pub const PALETTE: usize = 768;
 
-/// A width and height that the codec takes.
+/// A width and height that the codec takes; displayed as `160 by 64`.
 #[derive(Clone, Copy, Debug, PartialEq, Eq, Hash)]
 pub struct Size {
     width: u16,
@@ -29,10 +30,12 @@ impl Size {
         Ok(Size { width, height })
     }
 
+    /// The pixels of a row.
     pub fn width(self) -> u16 {
         self.width
     }
 
+    /// The rows.
     pub fn height(self) -> u16 {
         self.height
     }
@@ -40,6 +43,12 @@ impl Size {
     /// Width times height.
     pub fn pixels(self) -> usize {
         usize::from(self.width) * usize::from(self.height)
+    }
+}
+
+impl fmt::Display for Size {
+    fn fmt(&self, f: &mut fmt::Formatter<'_>) -> fmt::Result {
+        write!(f, "{} by {}", self.width, self.height)
     }
 }
 
@@ -64,14 +73,17 @@ impl Picture {
         }
     }
 
+    /// The width and height.
     pub fn size(&self) -> Size {
         self.size
     }
 
+    /// The pixels, row by row.
     pub fn pixels(&self) -> &[u8] {
         &self.pixels
     }
 
+    /// The pixels, to be changed.
     pub fn pixels_mut(&mut self) -> &mut [u8] {
         &mut self.pixels
     }
@@ -94,15 +106,18 @@ impl Palette {
         Palette { bytes }
     }
 
+    /// Red, green and blue of entry 0, then of entry 1, and so on.
     pub fn bytes(&self) -> &[u8; PALETTE] {
         &self.bytes
     }
 
+    /// Red, green and blue of an entry.
     pub fn colour(&self, entry: u8) -> [u8; 3] {
         let at = 3 * usize::from(entry);
         [self.bytes[at], self.bytes[at + 1], self.bytes[at + 2]]
     }
 
+    /// Sets red, green and blue of an entry.
     pub fn set_colour(&mut self, entry: u8, colour: [u8; 3]) {
         let at = 3 * usize::from(entry);
         self.bytes[at..at + 3].copy_from_slice(&colour);
@@ -112,7 +127,9 @@ impl Palette {
 /// A picture and its palette.
 #[derive(Clone, Debug, PartialEq, Eq)]
 pub struct State {
+    /// The pixels.
     pub picture: Picture,
+    /// The colours that they are entries of.
     pub palette: Palette,
 }
 
@@ -122,6 +139,7 @@ impl State {
         State { picture: Picture::blank(size), palette: Palette::blank() }
     }
 
+    /// The width and height of the picture.
     pub fn size(&self) -> Size {
         self.picture.size
     }
@@ -148,6 +166,7 @@ mod tests {
     fn sizes_the_codec_takes() {
         let taken = |width, height| Size::new(width, height).is_ok();
         assert!(taken(1, 1) && taken(320, 200));
+        assert_eq!(Size::new(320, 200).map(|size| size.to_string()), Ok("320 by 200".to_string()));
         assert!(!taken(0, 1) && !taken(1, 0) && !taken(321, 1) && !taken(1, 201));
     }
 

@@ -9,6 +9,7 @@ use std::ffi::OsString;
 use std::process::ExitCode;
 use tool::arguments::{hint, Arguments};
 use tool::failure::{misused, Failure, Outcome};
+use tool::name::Shown;
 use tool::say::{complain, say};
 
 fn main() -> ExitCode {
@@ -23,25 +24,35 @@ fn main() -> ExitCode {
     }
 }
 
-fn run(name: Option<&OsString>, words: impl Iterator<Item = OsString>) -> Outcome {
+fn run(name: Option<&OsString>, mut words: impl Iterator<Item = OsString>) -> Outcome {
     let Some(name) = name.map(|name| name.to_string_lossy()) else {
         return misused("a command is missing".to_string());
     };
     if matches!(&*name, "--help" | "-h" | "help") {
-        return say(&help());
+        return match words.next() {
+            Some(about) => say(&command(&about.to_string_lossy())?.help()),
+            None => say(&help()),
+        };
     }
     if matches!(&*name, "--version" | "-V") {
         return say(concat!("flic ", env!("CARGO_PKG_VERSION"), "\n"));
     }
-    let Some(command) = command_named(&name) else {
-        let names: Vec<&str> = commands::ALL.iter().map(|command| command.name).collect();
-        return misused(format!("there is no command {name}{}", hint(&name, &names)));
-    };
+    let command = command(&name)?;
     let arguments = Arguments::sorted(words, command.options)?;
     match arguments.wants_help {
         true => say(&command.help()),
         false => (command.run)(arguments),
     }
+}
+
+fn command(name: &str) -> Outcome<&'static Command> {
+    command_named(name).map_or_else(
+        || {
+            let names: Vec<&str> = commands::ALL.iter().map(|command| command.name).collect();
+            misused(format!("there is no command {}{}", name.shown(), hint(name, &names)))
+        },
+        Ok,
+    )
 }
 
 fn command_named(name: &str) -> Option<&'static Command> {
@@ -50,14 +61,11 @@ fn command_named(name: &str) -> Option<&'static Command> {
 }
 
 fn help() -> String {
-    let mut text = "usage: flic COMMAND ..\n\nChecks, shows and makes FLC reels for menu boards.\n\n".to_string();
+    let mut text = format!("usage: flic COMMAND ..\n\nflic {}.\n\n", commands::SUMMARY);
     for command in &commands::ALL {
         text += &format!("  {:8} {}\n", command.name, command.summary);
     }
-    text + "
-flic COMMAND --help says more. Exit status: 0 done, 1 refused or failed, 2 wrong usage.
-A file is written under a temporary name first, .NAME.NUMBER.tmp; one that an interrupted run left can be removed.
-"
+    text + "\nflic help COMMAND says more. " + commands::EXIT
 }
 
 /// Says on standard error what went wrong, and for a wrong command line what would be right.

@@ -1,6 +1,6 @@
 //! A picture to draw on.
 
-use super::font::{self, GLYPH_WIDTH};
+use super::font::dots;
 
 pub type Colour = [u8; 3];
 
@@ -22,16 +22,13 @@ impl Canvas {
 
     /// Letters with a column between them; `x` and `y` are the first one's upper left corner.
     pub fn text(&mut self, x: usize, y: usize, text: &str, colour: Colour) {
-        for (at, letter) in text.chars().enumerate() {
-            self.letter(x + at * (GLYPH_WIDTH + 1), y, letter, colour);
-        }
+        self.large_text(x, y, 1, text, colour);
     }
 
-    fn letter(&mut self, x: usize, y: usize, letter: char, colour: Colour) {
-        for (row, bits) in font::glyph(letter).into_iter().enumerate() {
-            for column in (0..GLYPH_WIDTH).filter(|column| bits >> (GLYPH_WIDTH - 1 - column) & 1 == 1) {
-                self.pixels[(y + row) * self.width + x + column] = colour;
-            }
+    /// Letters whose pixels are squares with sides of `scale`.
+    pub fn large_text(&mut self, x: usize, y: usize, scale: usize, text: &str, colour: Colour) {
+        for (column, row) in dots(text) {
+            self.rectangle(x + column * scale, y + row * scale, scale, scale, colour);
         }
     }
 

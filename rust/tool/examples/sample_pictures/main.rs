@@ -1,6 +1,8 @@
 //! Draws the pictures of the sample reels into a directory, as PPM files: `sample_pictures DIR`.
 
+mod board;
 mod canvas;
+#[path = "../../src/tool/font.rs"]
 mod font;
 mod pictures;
 
@@ -14,9 +16,8 @@ fn main() {
         process::exit(2);
     };
     let directory = Path::new(&directory);
-    if let Err(error) =
-        draw_all("menu", &pictures::menu(), directory).and_then(|()| draw_all("fade", &pictures::fade(), directory))
-    {
+    let reels = [("menu", pictures::menu()), ("fade", pictures::fade()), ("board", board::board())];
+    if let Err(error) = reels.iter().try_for_each(|(name, pictures)| draw_all(name, pictures, directory)) {
         eprintln!("{}: the pictures can't be written: {error}", directory.display());
         process::exit(1);
     }

@@ -1,23 +1,32 @@
 //! `flic check`: says of each file whether a board can play it for ever.
 
 use super::Command;
-use crate::tool::arguments::Arguments;
+use crate::tool::arguments::{Arguments, Opt};
 use crate::tool::failure::{misused, Failure, Outcome};
+use crate::tool::files;
+use crate::tool::json::Json;
+use crate::tool::name::Shown;
+use crate::tool::numbers::grouped;
 use crate::tool::progress::Progress;
+use crate::tool::refused::Told;
 use crate::tool::say::{complain, say};
-use crate::tool::{files, refused};
+use crate::tool::walk::{is_folder, reels};
 use flic::{check_reel, check_trailer, Header};
 use std::path::Path;
 
+pub const JSON: Opt = Opt { name: "--json", value: None, about: "says it as JSON, for programs" };
+
 pub const COMMAND: Command = Command {
     name: "check",
-    usage: "FILE..",
+    usage: "FILE.. [-q] [--json]",
     summary: "plays every frame and the ring, and checks the trailer",
     about: "\
-Plays every frame and the ring of each file, and checks what stands behind the reel, if anything does.
-Prints 'FILE: ok', or the refusal's number, its offset, the frame in which it lies, and what to do.
-A file may be of any size. Exit status 1 if any file is refused or can't be read.",
-    options: &[],
+Plays every frame and the ring of each file, and checks what stands behind the reel, if anything does. A FILE may be a
+folder: every file .flc and .fli in it is checked, and in the folders within it.
+Prints 'FILE: ok', or the refusal's number, its offset, the frame in which it lies, what was found, and what to do; of
+several files also how many are ok and how many refused, last. A file may be of any size.
+Exit status 1 if any file is refused or can't be read, or a folder holds none.",
+    options: &[Opt { name: "-q", value: None, about: "prints only what is refused" }, JSON],
     run,
 };
 
@@ -25,41 +34,110 @@ fn run(arguments: Arguments) -> Outcome {
     if arguments.files.is_empty() {
         return misused("FILE is missing".to_string());
     }
-    let mut all_right = true;
-    for file in &arguments.files {
-        match line(file) {
-            Ok((is_right, line)) => {
-                all_right &= is_right;
-                say(&line)?;
-            }
-            Err(Failure::Wrong(words)) => {
-                all_right = false;
-                complain(&format!("flic: {words}"));
-            }
-            Err(other) => return Err(other),
+    let mut report = Report::new(arguments.has("-q"), arguments.has(JSON.name));
+    for found in arguments.files.iter().flat_map(|given| reels(given)) {
+        match found {
+            Ok(file) => report.take(&file, verdict(&file))?,
+            Err((file, words)) => report.take(&file, Err(Failure::Wrong(words)))?,
         }
     }
-    if all_right {
-        Ok(())
-    } else {
-        Err(Failure::Said)
-    }
+    report.is_long = arguments.files.len() > 1 || is_folder(&arguments.files[0]);
+    report.finish()
 }
 
-/// Whether the file is right, and the line that says so.
-fn line(file: &Path) -> Outcome<(bool, String)> {
-    let _progress = Progress::new(format!("checking {}", file.display()), 0);
+/// What is wrong with the file, or nothing.
+fn verdict(file: &Path) -> Outcome<Option<Told>> {
+    let _progress = Progress::new(format!("checking {}", file.shown()), 0);
     let bytes = files::read_reel(file)?;
-    Ok(match checked(&bytes) {
-        Ok(()) => (true, format!("{}: ok\n", file.display())),
-        Err(why) => (false, refused::line(file, &bytes, why) + "\n"),
-    })
+    Ok(checked(&bytes).err().map(|why| Told::of(&bytes, why)))
 }
 
-fn checked(bytes: &[u8]) -> flic::Result<()> {
+/// Checks the reel, and what stands behind it.
+pub fn checked(bytes: &[u8]) -> flic::Result<()> {
     check_reel(bytes)?;
+    checked_behind(bytes)
+}
+
+/// Checks what stands behind a reel that is right.
+pub fn checked_behind(bytes: &[u8]) -> flic::Result<()> {
     match bytes.len() > Header::read(bytes)?.size as usize {
         true => check_trailer(bytes),
         false => Ok(()),
     }
+}
+
+/// What is said of the files, and how many were how.
+#[derive(Default)]
+struct Report {
+    is_quiet: bool,
+    /// Whether it ends with the numbers.
+    is_long: bool,
+    ok: usize,
+    refused: usize,
+    unread: usize,
+    /// A value for each file, where JSON is wanted.
+    json: Option<Vec<Json>>,
+}
+
+impl Report {
+    fn new(is_quiet: bool, is_json: bool) -> Report {
+        Report { is_quiet, json: is_json.then(Vec::new), ..Report::default() }
+    }
+
+    fn take(&mut self, file: &Path, verdict: Outcome<Option<Told>>) -> Outcome {
+        let (count, error, told) = match verdict {
+            Ok(None) => (&mut self.ok, None, None),
+            Ok(told) => (&mut self.refused, None, told),
+            Err(Failure::Wrong(words)) => (&mut self.unread, Some(words), None),
+            Err(other) => return Err(other),
+        };
+        *count += 1;
+        match (&mut self.json, error, told) {
+            (Some(files), error, told) => {
+                if !(self.is_quiet && error.is_none() && told.is_none()) {
+                    files.push(value(file, error, told.as_ref()));
+                }
+                Ok(())
+            }
+            (None, Some(words), _) => {
+                complain(&format!("flic: {words}"));
+                Ok(())
+            }
+            (None, None, Some(told)) => say(&format!("{}: {told}\n", file.shown())),
+            (None, None, None) if self.is_quiet => Ok(()),
+            (None, None, None) => say(&format!("{}: ok\n", file.shown())),
+        }
+    }
+
+    fn finish(self) -> Outcome {
+        let all_right = self.refused + self.unread == 0;
+        if let Some(files) = self.json {
+            let object = Json::Object(vec![
+                ("files", Json::List(files)),
+                ("ok", Json::number(self.ok)),
+                ("refused", Json::number(self.refused)),
+                ("unread", Json::number(self.unread)),
+            ]);
+            say(&format!("{object}\n"))?;
+        } else if self.is_long && !self.is_quiet {
+            let unread = match self.unread {
+                0 => String::new(),
+                count => format!(", {} not checked", grouped(count)),
+            };
+            say(&format!("{} ok, {} refused{unread}\n", grouped(self.ok), grouped(self.refused)))?;
+        }
+        match all_right {
+            true => Ok(()),
+            false => Err(Failure::Said),
+        }
+    }
+}
+
+fn value(file: &Path, error: Option<String>, told: Option<&Told>) -> Json {
+    Json::Object(vec![
+        ("file", Json::name(file)),
+        ("ok", Json::Bool(error.is_none() && told.is_none())),
+        ("refusal", Json::refusal(told)),
+        ("error", error.map_or(Json::Null, Json::Text)),
+    ])
 }

@@ -1,39 +1,129 @@
 //! `flic list`: the listing of a file's chunks.
 
+use super::check::{checked, JSON};
 use super::Command;
 use crate::tool::arguments::Arguments;
-use crate::tool::failure::{wrong, Outcome};
-use crate::tool::files;
-use crate::tool::refused;
+use crate::tool::failure::{wrong, Failure, Outcome};
+use crate::tool::files::Source;
+use crate::tool::json::Json;
+use crate::tool::name::Shown;
+use crate::tool::progress::Progress;
+use crate::tool::refused::Told;
+use crate::tool::salvage::Salvage;
 use crate::tool::say::say;
-use flic::LISTED_MOST;
+use crate::tool::stored::{chunks, kind_name, sub_chunks, StoredChunk, StoredHeader, FRAME_HEADER, FRAME_KIND};
+use flic::FILE_HEADER;
 
 pub const COMMAND: Command = Command {
     name: "list",
-    usage: "FILE",
+    usage: "FILE [--json]",
     summary: "lists the chunks, one line each",
     about: "\
-Prints 'flic WIDTH HEIGHT FRAMES', then a line for each chunk up to the ring with its depth, offset, kind and size,
-then 'ok'; or the one line 'refused NUMBER OFFSET', with exit status 1. Files of up to 65,536 bytes are listed.",
-    options: &[],
+Prints 'flic WIDTH HEIGHT FRAMES', then a line for each chunk up to the ring with its depth, offset, kind, size and
+name, as far as chunks are found. The last line is 'ok' if the check accepts the file, and else 'refused NUMBER
+OFFSET', with exit status 1. A file may be of any size.",
+    options: &[JSON],
     run,
 };
 
 fn run(arguments: Arguments) -> Outcome {
+    let is_json = arguments.has(JSON.name);
     let [file] = arguments.exactly(["FILE"])?;
-    let bytes = files::read(&file)?;
-    match flic::list(&bytes) {
-        Ok(text) => say(&text),
-        Err(why) => {
-            say(&format!("refused {} {}\n", why.refusal.number(), why.place))?;
-            match bytes.len() > LISTED_MOST {
-                true => wrong(format!(
-                    "{}: has {} bytes, and only files of up to {LISTED_MOST} are listed: see flic info",
-                    file.display(),
-                    bytes.len()
-                )),
-                false => wrong(refused::line(&file, &bytes, why)),
-            }
+    let progress = Progress::new(format!("checking {}", file.shown()), 0);
+    let mut source = Source::open(&file)?;
+    source.read_reel()?;
+    let why = checked(&source.bytes).err();
+    if why.is_some() {
+        source.read_on()?;
+    }
+    drop(progress);
+    let told = why.map(|why| Told::of(&source.bytes, why));
+    let header = StoredHeader::of(&source.bytes);
+    let rows = Salvage::of(&source.bytes).map_or(Vec::new(), |salvage| rows(&salvage, &source.bytes));
+    let header = header.filter(|_| !rows.is_empty());
+    if is_json {
+        let object = vec![
+            ("file", Json::name(&file)),
+            ("ok", Json::Bool(told.is_none())),
+            ("refusal", Json::refusal(told.as_ref())),
+            ("width", header.map_or(Json::Null, |header| Json::number(header.width))),
+            ("height", header.map_or(Json::Null, |header| Json::number(header.height))),
+            ("frames", header.map_or(Json::Null, |header| Json::number(header.frames))),
+            ("chunks", Json::List(rows.iter().map(Row::value).collect())),
+        ];
+        say(&format!("{}\n", Json::Object(object)))?;
+        return told.map_or(Ok(()), |_| Err(Failure::Said));
+    }
+    if let Some(header) = header {
+        say(&format!("flic {} {} {}\n", header.width, header.height, header.frames))?;
+    }
+    say(&rows.iter().map(Row::line).collect::<String>())?;
+    match told {
+        None => say("ok\n"),
+        Some(told) => {
+            say(&format!("refused {} {}\n", told.refused.refusal.number(), told.refused.place))?;
+            wrong(format!("{}: {told}", file.shown()))
         }
     }
+}
+
+/// A chunk of the listing.
+struct Row {
+    depth: usize,
+    offset: usize,
+    kind: u16,
+    size: usize,
+    name: String,
+}
+
+impl Row {
+    fn line(&self) -> String {
+        format!("{} {} {} {} {}\n", self.depth, self.offset, self.kind, self.size, self.name)
+    }
+
+    fn value(&self) -> Json {
+        Json::Object(vec![
+            ("depth", Json::number(self.depth)),
+            ("offset", Json::number(self.offset)),
+            ("kind", Json::number(self.kind)),
+            ("size", Json::number(self.size)),
+            ("name", Json::text(&self.name)),
+        ])
+    }
+}
+
+/// The chunks up to the ring: frames where the codec finds them, what they hold, and what stands between them.
+fn rows(salvage: &Salvage, bytes: &[u8]) -> Vec<Row> {
+    let (mut rows, mut at) = (Vec::new(), FILE_HEADER);
+    let wanted = salvage.promised.map_or(salvage.chunks.len(), |frames| frames + 1);
+    for (number, frame) in (1..).zip(salvage.chunks.iter().take(wanted)) {
+        rows.extend(back_to_back(0, at, chunks(&bytes[at..frame.offset])));
+        let name = if salvage.promised.is_some_and(|frames| number > frames) {
+            "ring".to_string()
+        } else {
+            format!("frame {number}")
+        };
+        rows.push(Row { depth: 0, offset: frame.offset, kind: FRAME_KIND, size: frame.size, name });
+        let held = sub_chunks(&bytes[frame.offset..frame.end()]);
+        rows.extend(back_to_back(1, frame.offset + FRAME_HEADER, held));
+        at = frame.end();
+    }
+    if salvage.chunks.len() < wanted {
+        let last = chunks(&bytes[at..salvage.reel_end()]).take_while(|chunk| chunk.kind != FRAME_KIND);
+        rows.extend(back_to_back(0, at, last));
+    }
+    rows
+}
+
+/// Chunks of which the first stands at this offset.
+fn back_to_back(
+    depth: usize,
+    mut offset: usize,
+    chunks: impl Iterator<Item = StoredChunk>,
+) -> impl Iterator<Item = Row> {
+    chunks.map(move |StoredChunk { kind, size }| {
+        let row = Row { depth, offset, kind, size, name: kind_name(kind).to_string() };
+        offset += size;
+        row
+    })
 }

@@ -2,12 +2,17 @@
 
 mod build;
 mod check;
+mod diff;
 mod frames;
 mod info;
 mod list;
+mod manual;
+mod page;
 mod play;
+mod repair;
 mod replay;
 mod rewrite;
+mod sheet;
 mod tiles;
 mod trailer;
 
@@ -27,7 +32,17 @@ pub struct Command {
     pub run: fn(Arguments) -> Outcome,
 }
 
-pub const ALL: [Command; 10] = [
+/// What the tool does, in a line.
+pub const SUMMARY: &str = "checks, shows and makes FLC reels for menu boards";
+
+/// How a command ends, and what it may leave.
+pub const EXIT: &str = "\
+Exit status: 0 done, 1 refused or failed, 2 wrong usage.
+The name - is standard input for a file that is read, and standard output for one that is written.
+What is written has a temporary name first, .NAME.NUMBER.tmp; one that an interrupted run left can be removed.
+";
+
+pub const ALL: [Command; 15] = [
     check::COMMAND,
     info::COMMAND,
     list::COMMAND,
@@ -35,9 +50,14 @@ pub const ALL: [Command; 10] = [
     replay::COMMAND,
     frames::COMMAND,
     tiles::COMMAND,
+    sheet::COMMAND,
+    page::COMMAND,
+    diff::COMMAND,
     build::COMMAND,
+    repair::COMMAND,
     rewrite::COMMAND,
     trailer::COMMAND,
+    manual::COMMAND,
 ];
 
 impl Command {
@@ -67,7 +87,7 @@ mod tests {
                 assert!(command.usage.contains(&option.usage()), "{}: {}", command.name, option.name);
                 assert!(command.help().contains(&format!("\n  {} ", option.usage())), "{}", command.help());
             }
-            let named = command.usage.matches("--").count();
+            let named = command.usage.split([' ', '[', ']']).filter(|word| word.starts_with('-')).count();
             assert_eq!(named, command.options.len(), "{}", command.usage);
         }
     }

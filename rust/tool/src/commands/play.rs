@@ -4,6 +4,7 @@ use super::Command;
 use crate::tool::arguments::{Arguments, Opt};
 use crate::tool::cells::Cells;
 use crate::tool::failure::{wrong, Outcome};
+use crate::tool::name::Shown;
 use crate::tool::progress::Progress;
 use crate::tool::say::say;
 use crate::tool::terminal::{must_be_there, Measures, Met, Terminal};
@@ -40,7 +41,7 @@ fn run(arguments: Arguments) -> Outcome {
     let speed = arguments.number("--speed", 0)?;
     let [file] = arguments.exactly(["FILE"])?;
     must_be_there()?;
-    let progress = Progress::new(format!("checking {}", file.display()), 0);
+    let progress = Progress::new(format!("checking {}", file.shown()), 0);
     let bytes = files::read_reel(&file)?;
     let player = Player::start(&bytes[..], 0);
     drop(progress);
@@ -51,7 +52,7 @@ fn run(arguments: Arguments) -> Outcome {
     let end = show.until_the_end(laps.map(u64::from));
     let (lap, frame) = (show.lap, show.frame());
     drop(show);
-    let file = file.display();
+    let file = file.shown();
     match end? {
         End::Laps => say(&format!("{file}: {lap} {} played\n", if lap == 1 { "lap" } else { "laps" })),
         End::Key => say(&format!("{file}: ended in lap {lap}, at {frame}\n")),

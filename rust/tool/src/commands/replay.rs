@@ -2,7 +2,8 @@
 
 use super::Command;
 use crate::tool::arguments::Arguments;
-use crate::tool::failure::{wrong, Outcome};
+use crate::tool::failure::{misused, wrong, Outcome};
+use crate::tool::name::Shown;
 use crate::tool::progress::Progress;
 use crate::tool::say::say;
 use crate::tool::{files, refused};
@@ -24,7 +25,10 @@ that showed after it; the ring has the number after the last frame's.",
 
 fn run(arguments: Arguments) -> Outcome {
     let [file] = arguments.exactly(["FILE"])?;
-    let progress = Progress::new(format!("checking {}", file.display()), 0);
+    if files::is_standard(&file) {
+        return misused("standard input has the readings: give the reel as a file".to_string());
+    }
+    let progress = Progress::new(format!("checking {}", file.shown()), 0);
     let bytes = files::read_reel(&file)?;
     let reel = CheckedReel::new(&bytes);
     drop(progress);

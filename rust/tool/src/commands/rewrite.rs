@@ -3,50 +3,42 @@
 use super::Command;
 use crate::tool::arguments::Arguments;
 use crate::tool::failure::Outcome;
+use crate::tool::house::{house, not_kept};
+use crate::tool::name::Shown;
+use crate::tool::numbers::{counted, grouped};
 use crate::tool::progress::Progress;
-use crate::tool::say::say;
+use crate::tool::shares::{lost, shares};
+use crate::tool::stored::{self, StoredHeader};
+use crate::tool::target::{Target, FORCE};
 use crate::tool::{files, refused};
-use flic::{check_reel, check_trailer, write_trailer, CheckedReel, Reel};
+use flic::CheckedReel;
 
 pub const COMMAND: Command = Command {
     name: "rewrite",
-    usage: "IN OUT",
+    usage: "IN OUT [--force]",
     summary: "writes the same pictures in house form",
     about: "\
 Writes the reel IN anew as OUT, in house form: the same pictures, palettes and speed, and a trailer if IN has one.
-Other chunks, dates, and bytes behind the reel that aren't its trailer aren't kept.
-OUT may be IN, and is replaced only if it is a FLC file.",
-    options: &[],
+Other chunks, dates, and bytes behind the reel that aren't its trailer aren't kept; it is said which there were.
+OUT may be IN. A FLC file that is there already is replaced if it is in house form, or with --force; another file isn't.",
+    options: &[FORCE],
     run,
 };
 
 fn run(arguments: Arguments) -> Outcome {
+    let is_forced = arguments.has(FORCE.name);
     let [file, out] = arguments.exactly(["IN", "OUT"])?;
-    let progress = Progress::new(format!("checking {}", file.display()), 0);
+    let progress = Progress::new(format!("checking {}", file.shown()), 0);
     let before = files::read(&file)?;
     let reel = CheckedReel::new(&before);
     drop(progress);
     let reel = refused::accepted(&file, &before, reel)?;
-    files::may_be_replaced(&out)?;
-    let has_trailer = before.len() > reel.header().size as usize && check_trailer(&before).is_ok();
-
-    let after = refused::accepted(&out, &before, rewritten(&reel, has_trailer, &out.display().to_string()))?;
-    files::write(&out, &after)?;
-    say(&format!("{}: {} bytes, {} before\n", out.display(), after.len(), before.len()))
-}
-
-fn rewritten(reel: &CheckedReel, has_trailer: bool, out: &str) -> flic::Result<Vec<u8>> {
-    let frames = usize::from(reel.header().frames);
-    let progress = Progress::new(format!("writing {out}"), frames);
-    let mut house = Reel::open(reel.size(), reel.header().speed)?;
-    for frame in reel.frames().take(frames) {
-        house.add(&frame.state)?;
-        progress.step();
+    let target = Target::new(&out, is_forced)?;
+    let after = refused::accepted(&file, &before, house(&reel, &before, format!("writing {}", target.name())))?;
+    let mut not_in_it = lost(&shares(reel.frame_chunks(), reel.header().size as usize, &before));
+    if let (Some(before), Some(after)) = (StoredHeader::of(&before), StoredHeader::of(&after)) {
+        not_in_it.extend(stored::lost(&before, &after));
     }
-    let mut bytes = house.close()?;
-    check_reel(&bytes)?;
-    if has_trailer {
-        write_trailer(&mut bytes)?;
-    }
-    Ok(bytes)
+    let told = not_kept(not_in_it).map_or(String::new(), |line| format!("{}: {line}\n", file.shown()));
+    target.deliver(&after, &told, &format!("{}, {} before", counted(after.len(), "byte"), grouped(before.len())))
 }

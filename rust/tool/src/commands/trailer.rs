@@ -3,8 +3,10 @@
 use super::Command;
 use crate::tool::arguments::Arguments;
 use crate::tool::failure::{misused, wrong, Outcome};
+use crate::tool::name::Shown;
 use crate::tool::progress::Progress;
 use crate::tool::say::say;
+use crate::tool::target::say_beside;
 use crate::tool::{files, refused};
 use flic::{check_trailer, write_trailer, Header};
 use std::path::Path;
@@ -27,23 +29,23 @@ fn run(arguments: Arguments) -> Outcome {
     match task.to_str() {
         Some("check") => check(&file),
         Some("write") => write(&file),
-        _ => misused(format!("{} isn't check or write", task.display())),
+        _ => misused(format!("{} isn't check or write", task.shown())),
     }
 }
 
 fn check(file: &Path) -> Outcome {
-    let progress = Progress::new(format!("reading {}", file.display()), 0);
+    let progress = Progress::new(format!("reading {}", file.shown()), 0);
     let bytes = files::read_reel(file)?;
     drop(progress);
     match check_trailer(&bytes) {
-        Ok(()) if behind(&bytes) == 0 => say(&format!("{}: ok, without a trailer\n", file.display())),
-        Ok(()) => say(&format!("{}: ok, a trailer of {} bytes\n", file.display(), behind(&bytes))),
+        Ok(()) if behind(&bytes) == 0 => say(&format!("{}: ok, without a trailer\n", file.shown())),
+        Ok(()) => say(&format!("{}: ok, a trailer of {} bytes\n", file.shown(), behind(&bytes))),
         Err(why) => wrong(refused::line(file, &bytes, why)),
     }
 }
 
 fn write(file: &Path) -> Outcome {
-    let progress = Progress::new(format!("reading {}", file.display()), 0);
+    let progress = Progress::new(format!("reading {}", file.shown()), 0);
     let mut bytes = files::read(file)?;
     drop(progress);
     let before = bytes.len();
@@ -56,7 +58,7 @@ fn write(file: &Path) -> Outcome {
     };
     files::may_be_replaced(file)?;
     files::write(file, &bytes)?;
-    say(&format!("{}: a trailer of {} bytes{replaced}\n", file.display(), behind(&bytes)))
+    say_beside(file, &format!("{}: a trailer of {} bytes{replaced}", files::target_name(file), behind(&bytes)))
 }
 
 /// How many bytes stand behind the reel.

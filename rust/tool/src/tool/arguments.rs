@@ -1,6 +1,7 @@
 //! The words behind a command's name, sorted into options and the rest.
 
 use super::failure::{misused, Outcome};
+use super::name::Shown;
 use std::ffi::{OsStr, OsString};
 use std::path::{Path, PathBuf};
 
@@ -59,10 +60,10 @@ impl Arguments {
         let Some(option) = options.iter().find(|option| option.name == name) else {
             let names: Vec<&str> = options.iter().map(|option| option.name).chain(["--help"]).collect();
             let file = match Path::new(text).exists() {
-                true => format!("; if the file is meant, write ./{text}"),
+                true => format!("; if the file is meant, write ./{}", text.shown()),
                 false => String::new(),
             };
-            return misused(format!("there is no option {name}{}{file}", hint(name, &names)));
+            return misused(format!("there is no option {}{}{file}", name.shown(), hint(name, &names)));
         };
         let value = match (option.value.is_some(), attached) {
             (false, Some(_)) => return misused(format!("{name} takes no value")),
@@ -83,7 +84,8 @@ impl Arguments {
         self.value(name).is_some()
     }
 
-    fn value(&self, name: &str) -> Option<&OsStr> {
+    /// What was given with an option.
+    pub fn value(&self, name: &str) -> Option<&OsStr> {
         self.given.iter().find(|(given, _)| *given == name).map(|(_, value)| value.as_os_str())
     }
 
@@ -95,7 +97,7 @@ impl Arguments {
             _ => misused(format!(
                 "{name} takes a whole number from {least} to {}, not {}",
                 u32::MAX,
-                Path::new(value).display()
+                Path::new(value).shown()
             )),
         }
     }
@@ -105,7 +107,7 @@ impl Arguments {
         let given = self.files.len();
         self.files.try_into().or_else(|files: Vec<PathBuf>| match names.get(given) {
             Some(name) => misused(format!("{name} is missing")),
-            None => misused(format!("{} is one word too many", files[COUNT].display())),
+            None => misused(format!("{} is one word too many", files[COUNT].shown())),
         })
     }
 }

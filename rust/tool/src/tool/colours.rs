@@ -97,7 +97,6 @@ impl Coloured {
 #[cfg(test)]
 mod tests {
     use super::*;
-    use flic::Size;
 
     const BLACK: [u8; 3] = [0; 3];
     const RED: [u8; 3] = [200, 0, 0];
@@ -105,11 +104,11 @@ mod tests {
     const BLUE: [u8; 3] = [0, 0, 200];
 
     fn image(pixels: &[[u8; 3]]) -> Image {
-        Image { size: Size::new(pixels.len() as u16, 1).unwrap(), pixels: pixels.to_vec() }
+        Image { width: pixels.len(), height: 1, pixels: pixels.to_vec() }
     }
 
     fn blank(image: &Image) -> State {
-        State::blank(image.size)
+        State::blank(image.size().unwrap())
     }
 
     #[test]

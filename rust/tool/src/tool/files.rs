@@ -1,59 +1,150 @@
-//! Files: read whole, and written so that a failure leaves what was there.
+//! Files: read whole, and written so that a failure leaves what was there. `-` is standard input and output.
 
-use super::failure::{wrong, Outcome};
+use super::failure::{wrong, Failure, Outcome};
+use super::name::Shown;
 use super::progress::Progress;
+use super::stored::mended;
 use flic::{Header, Refusal, Refused, FILE_HEADER, TRAILER_MOST};
 use std::ffi::OsString;
 use std::fs::{self, File, OpenOptions};
-use std::io::{self, ErrorKind, Read, Write};
+use std::io::{self, ErrorKind, IsTerminal, Read, Write};
+use std::os::unix::fs::{chown, MetadataExt};
 use std::path::{Path, PathBuf};
 use std::process;
 
 /// How much of a file is read at a time, until its reel is there.
 const WINDOW: u64 = 1 << 20;
 
+/// Whether standard input or output is meant.
+pub fn is_standard(file: &Path) -> bool {
+    file.as_os_str() == "-"
+}
+
+/// How a file that is written is called.
+pub fn target_name(target: &Path) -> String {
+    match is_standard(target) {
+        true => "standard output".to_string(),
+        false => target.shown(),
+    }
+}
+
+/// Whether two names are one file's.
+pub fn are_one(one: &Path, other: &Path) -> bool {
+    let number = |file: &Path| fs::metadata(file).map(|about| (about.dev(), about.ino())).ok();
+    !is_standard(one) && !is_standard(other) && number(one).is_some() && number(one) == number(other)
+}
+
 pub fn read(file: &Path) -> Outcome<Vec<u8>> {
-    fs::read(file).or_else(|error| unreadable(file, &error))
+    let mut source = Source::open(file)?;
+    source.read_rest()?;
+    Ok(source.bytes)
 }
 
-/// Reads what the check of a file depends on: the reel, as long as its header says, and what stands behind it, but no
-/// more of that than one byte over the longest trailer.
+/// Reads what the check of a file depends on.
 pub fn read_reel(file: &Path) -> Outcome<Vec<u8>> {
-    reel_in(file).or_else(|error| unreadable(file, &error))
+    let mut source = Source::open(file)?;
+    source.read_reel()?;
+    Ok(source.bytes)
 }
 
-fn reel_in(file: &Path) -> io::Result<Vec<u8>> {
-    let (source, mut bytes) = (File::open(file)?, Vec::new());
-    let end = loop {
-        let found = (&source).take(WINDOW).read_to_end(&mut bytes)?;
-        match Header::read(&bytes) {
-            Ok(header) => break header.size as usize + TRAILER_MOST + 1,
-            // The reel may go on in what isn't read yet.
-            Err(Refused { refusal: Refusal::Cut, .. }) if found > 0 => {}
-            // So the check will refuse it, whatever comes behind.
-            Err(_) => return Ok(bytes),
+/// A file that is being read.
+pub struct Source<'a> {
+    file: &'a Path,
+    from: Box<dyn Read>,
+    pub bytes: Vec<u8>,
+}
+
+impl<'a> Source<'a> {
+    pub fn open(file: &'a Path) -> Outcome<Source<'a>> {
+        let from: Box<dyn Read> = match is_standard(file) {
+            true => Box::new(io::stdin()),
+            false => Box::new(File::open(file).or_else(|error| unreadable(file, &error))?),
+        };
+        Ok(Source { file, from, bytes: Vec::new() })
+    }
+
+    /// Reads what the check depends on: the reel, as long as its header says, and what stands behind it, but no more of
+    /// that than one byte over the longest trailer.
+    pub fn read_reel(&mut self) -> Outcome {
+        self.reel().or_else(|error| unreadable(self.file, &error))
+    }
+
+    fn reel(&mut self) -> io::Result<()> {
+        let end = loop {
+            let found = self.from.by_ref().take(WINDOW).read_to_end(&mut self.bytes)?;
+            match Header::read(&self.bytes) {
+                Ok(header) => break header.size as usize + TRAILER_MOST + 1,
+                // The reel may go on in what isn't read yet.
+                Err(Refused { refusal: Refusal::Cut, .. }) if found > 0 => {}
+                // So the check will refuse it, whatever comes behind.
+                Err(_) => return Ok(()),
+            }
+        };
+        let missing = end.saturating_sub(self.bytes.len());
+        self.from.by_ref().take(missing as u64).read_to_end(&mut self.bytes)?;
+        self.bytes.truncate(end);
+        Ok(())
+    }
+
+    /// Reads on where the header is refused and doesn't say where the reel ends, but frames may stand behind it.
+    pub fn read_on(&mut self) -> Outcome {
+        if Header::read(&self.bytes).is_ok() || Header::read(&mended(&self.bytes)).is_err() {
+            return Ok(());
         }
-    };
-    source.take(end.saturating_sub(bytes.len()) as u64).read_to_end(&mut bytes)?;
-    bytes.truncate(end);
-    Ok(bytes)
+        match self.from.by_ref().take(u32::MAX.into()).read_to_end(&mut self.bytes) {
+            Ok(_) => Ok(()),
+            Err(error) => unreadable(self.file, &error),
+        }
+    }
+
+    /// Reads what isn't read yet, to the end of the file.
+    pub fn read_rest(&mut self) -> Outcome {
+        match self.from.read_to_end(&mut self.bytes) {
+            Ok(_) => Ok(()),
+            Err(error) => unreadable(self.file, &error),
+        }
+    }
 }
 
 fn unreadable<T>(file: &Path, error: &io::Error) -> Outcome<T> {
-    wrong(format!("{}: can't be read: {error}{}", file.display(), advice(error)))
+    wrong(format!("{}: can't be read: {error}{}", file.shown(), advice(error)))
 }
 
-/// Puts the bytes into a temporary file beside the target, which then takes the target's name.
+/// Puts the bytes into a temporary file beside the target, which then takes the target's name, owner and mode.
 pub fn write(target: &Path, bytes: &[u8]) -> Outcome {
-    let _progress = Progress::new(format!("writing {}", target.display()), 0);
+    if is_standard(target) {
+        return put_out(bytes);
+    }
+    let _progress = Progress::new(format!("writing {}", target.shown()), 0);
     put(target, bytes).or_else(|error| {
         let kept = if target.exists() { "; what was there is as it was" } else { "; nothing was written" };
-        wrong(format!("{}: can't be written: {error}{}{kept}", target.display(), advice(&error)))
+        wrong(format!("{}: can't be written: {error}{}{kept}", target.shown(), advice(&error)))
     })
 }
 
-/// Refuses a target whose loss would be noticed: anything but a FLC file that may be written.
+fn put_out(bytes: &[u8]) -> Outcome {
+    let mut out = io::stdout().lock();
+    match out.write_all(bytes).and_then(|()| out.flush()) {
+        Ok(()) => Ok(()),
+        Err(error) if error.kind() == ErrorKind::BrokenPipe => Err(Failure::Said),
+        Err(error) => wrong(format!("standard output: can't be written: {error}{}", advice(&error))),
+    }
+}
+
+/// Refuses a standard output that would show bytes as letters.
+pub fn no_terminal() -> Outcome {
+    match io::stdout().is_terminal() {
+        true => wrong("standard output is a terminal: send it to a file or a program with > or |".to_string()),
+        false => Ok(()),
+    }
+}
+
+/// Refuses a target whose loss would be noticed: anything but a FLC file that may be written. Standard output must not
+/// be a terminal.
 pub fn may_be_replaced(target: &Path) -> Outcome {
+    if is_standard(target) {
+        return no_terminal();
+    }
     let why = match fs::metadata(target) {
         Err(_) if !target.is_symlink() => return Ok(()),
         Err(_) => "is a link that leads nowhere: give another name, or remove it first",
@@ -65,7 +156,7 @@ pub fn may_be_replaced(target: &Path) -> Outcome {
         Ok(_) if is_flc_or_empty(target)? => return Ok(()),
         Ok(_) => "is there already and isn't a FLC file: give another name, or remove it first",
     };
-    wrong(format!("{}: {why}", target.display()))
+    wrong(format!("{}: {why}", target.shown()))
 }
 
 fn is_flc_or_empty(file: &Path) -> Outcome<bool> {
@@ -91,7 +182,7 @@ fn put(target: &Path, bytes: &[u8]) -> io::Result<()> {
         .write_all(bytes)
         .and_then(|()| file.sync_all())
         .and_then(|()| match fs::metadata(&target) {
-            Ok(about) => fs::set_permissions(&temporary, about.permissions()),
+            Ok(about) => take_over(&temporary, &about),
             Err(_) => Ok(()),
         })
         .and_then(|()| fs::rename(&temporary, &target));
@@ -101,20 +192,38 @@ fn put(target: &Path, bytes: &[u8]) -> io::Result<()> {
     done
 }
 
+/// Gives a new file the owner, the group and the mode of the one that it replaces.
+fn take_over(new: &Path, old: &fs::Metadata) -> io::Result<()> {
+    let own = fs::metadata(new)?;
+    if (own.uid(), own.gid()) != (old.uid(), old.gid()) {
+        chown(new, Some(old.uid()), Some(old.gid())).map_err(|_| {
+            io::Error::other("it belongs to another user or group; give another name, or run this as its owner")
+        })?;
+    }
+    fs::set_permissions(new, old.permissions())
+}
+
 fn temporary_beside(target: &Path) -> io::Result<(PathBuf, File)> {
-    let name = target.file_name().ok_or_else(|| io::Error::new(ErrorKind::InvalidInput, "this is no file's name"))?;
+    if target.file_name().is_none() {
+        return Err(io::Error::new(ErrorKind::InvalidInput, "this is no file's name"));
+    }
     let mut attempt = 0;
     loop {
-        let mut temporary = OsString::from(".");
-        temporary.push(name);
-        temporary.push(format!(".{}-{attempt}.tmp", process::id()));
-        let path = target.with_file_name(temporary);
+        let path = target.with_file_name(temporary_name(target, attempt));
         match OpenOptions::new().write(true).create_new(true).open(&path) {
             Err(error) if error.kind() == ErrorKind::AlreadyExists && attempt < 100 => attempt += 1,
             Err(error) => return Err(error),
             Ok(file) => return Ok((path, file)),
         }
     }
+}
+
+/// The name under which something is written that will have the target's.
+pub fn temporary_name(target: &Path, attempt: usize) -> OsString {
+    let mut name = OsString::from(".");
+    name.push(target.file_name().unwrap_or_default());
+    name.push(format!(".{}-{attempt}.tmp", process::id()));
+    name
 }
 
 /// What to do about an error, as the end of a sentence.

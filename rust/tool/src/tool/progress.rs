@@ -1,5 +1,6 @@
 //! A line on the terminal about work that takes longer than a second.
 
+use flic_boundary::terminal::measures;
 use std::io::{self, IsTerminal, Write};
 use std::sync::atomic::{AtomicUsize, Ordering};
 use std::sync::{Arc, Condvar, Mutex};
@@ -8,9 +9,10 @@ use std::time::{Duration, Instant};
 
 const PATIENCE: Duration = Duration::from_secs(1);
 const INTERVAL: Duration = Duration::from_millis(200);
-/// How much of a long name is shown: a line wider than the terminal couldn't be wiped away.
-const FRONT: usize = 16;
-const BACK: usize = 30;
+/// Where the terminal doesn't know its width.
+const USUAL: usize = 80;
+/// What stands for the middle of a long name.
+const GAP: &str = "[..]";
 
 /// Shows itself from the first second on, and is wiped away when it is dropped.
 pub struct Progress {
@@ -30,7 +32,7 @@ impl Progress {
     /// `total` is how many steps there will be; 0 where they can't be counted.
     pub fn new(what: String, total: usize) -> Progress {
         let (done, is_over, bell) = (AtomicUsize::new(0), Mutex::new(false), Condvar::new());
-        let shared = Arc::new(Shared { what: short(what), done, total, is_over, bell });
+        let shared = Arc::new(Shared { what, done, total, is_over, bell });
         let line = io::stderr().is_terminal().then(|| {
             let shared = Arc::clone(&shared);
             thread::spawn(move || shared.show())
@@ -60,7 +62,7 @@ impl Shared {
         let start = Instant::now();
         let mut pause = PATIENCE;
         while !self.is_over_after(pause) {
-            let _ = write!(io::stderr(), "\r{}\x1b[K", self.text(start.elapsed()));
+            let _ = write!(io::stderr(), "\r{}\x1b[K", self.text(start.elapsed(), columns()));
             pause = INTERVAL;
         }
         if pause == INTERVAL {
@@ -76,36 +78,84 @@ impl Shared {
         }
     }
 
-    fn text(&self, elapsed: Duration) -> String {
-        match self.total {
-            0 => format!("{} .. {} s", self.what, elapsed.as_secs()),
-            total => {
-                format!("{} .. {} of {total}, {} s", self.what, self.done.load(Ordering::Relaxed), elapsed.as_secs())
-            }
-        }
+    /// The line, short of the last column: one that is wider than the terminal couldn't be wiped away.
+    fn text(&self, elapsed: Duration, columns: usize) -> String {
+        let seconds = elapsed.as_secs();
+        let end = match self.total {
+            0 => format!(" .. {seconds} s"),
+            total => format!(" .. {} of {total}, {seconds} s", self.done.load(Ordering::Relaxed)),
+        };
+        let room = columns.saturating_sub(1);
+        let text = shortened(&self.what, room.saturating_sub(end.len())) + &end;
+        front(&text, room)
     }
 }
 
-fn short(what: String) -> String {
-    let letters: Vec<char> = what.chars().collect();
-    if letters.len() <= FRONT + BACK {
-        return what;
+/// The width of the terminal that the line stands on.
+fn columns() -> usize {
+    match measures(&io::stderr()) {
+        Ok((columns @ 1.., _)) => columns.into(),
+        _ => USUAL,
     }
-    let (front, back) = (&letters[..FRONT], &letters[letters.len() - BACK..]);
-    format!("{}[..]{}", String::from_iter(front), String::from_iter(back))
+}
+
+/// The text in so many columns, a third of them for its front where its middle is left out.
+fn shortened(text: &str, room: usize) -> String {
+    if width(text) <= room {
+        return text.to_string();
+    }
+    let room = room.saturating_sub(GAP.len());
+    let start = front(text, room / 3);
+    let end: String = text.chars().rev().collect();
+    let end: String = front(&end, room - room / 3).chars().rev().collect();
+    start + GAP + &end
+}
+
+/// As much of the text's front as fits.
+fn front(text: &str, room: usize) -> String {
+    let mut left = room;
+    let fits = |letter: &char| {
+        let fits = columns_of(*letter) <= left;
+        left = left.saturating_sub(columns_of(*letter));
+        fits
+    };
+    text.chars().take_while(fits).collect()
+}
+
+fn width(text: &str) -> usize {
+    text.chars().map(columns_of).sum()
+}
+
+/// At most so many columns does a letter take.
+fn columns_of(letter: char) -> usize {
+    if letter.is_ascii() {
+        1
+    } else {
+        2
+    }
 }
 
 #[cfg(test)]
 mod tests {
     use super::*;
 
+    fn text(what: &str, total: usize, seconds: u64, columns: usize) -> String {
+        Progress::new(what.to_string(), total).shared.text(Duration::from_secs(seconds), columns)
+    }
+
     #[test]
     fn a_line_has_room_on_a_terminal() {
         let what = format!("building {}menu.flc", "boards/".repeat(30));
-        let text = Progress::new(what, 4_000).shared.text(Duration::from_secs(10_000));
-        assert_eq!(text, "building boards/[..]/boards/boards/boards/menu.flc .. 0 of 4000, 10000 s");
-        let what = "building menu.flc".to_string();
-        assert_eq!(Progress::new(what.clone(), 0).shared.what, what);
+        let expected = "building boards/b[..]boards/boards/boards/boards/menu.flc .. 0 of 4000, 10000 s";
+        assert_eq!(text(&what, 4_000, 10_000, 80), expected);
+        assert_eq!(text(&what, 0, 3, 40), "building [..]rds/boards/menu.flc .. 3 s");
+        assert!(text(&what, 0, 3, 300).starts_with(&what));
+        assert_eq!(text("building menu.flc", 0, 3, 25), "building menu.flc .. 3 s");
+        assert_eq!(text("building menu.flc", 0, 3, 24), "buil[..]menu.flc .. 3 s");
+        for columns in 0..200 {
+            let line = text("checking speisekarten/für-heute/寿司の写真.flc", 77, 1_234, columns);
+            assert!(width(&line) < columns.max(1), "{columns}: {line}");
+        }
     }
 
     #[test]
@@ -113,8 +163,8 @@ mod tests {
         let progress = Progress::new("adding".to_string(), 5);
         progress.step();
         progress.step();
-        assert_eq!(progress.shared.text(Duration::from_secs(3)), "adding .. 2 of 5, 3 s");
-        assert_eq!(Progress::new("checking".to_string(), 0).shared.text(Duration::ZERO), "checking .. 0 s");
+        assert_eq!(progress.shared.text(Duration::from_secs(3), 80), "adding .. 2 of 5, 3 s");
+        assert_eq!(text("checking", 0, 0, 80), "checking .. 0 s");
     }
 
     #[test]

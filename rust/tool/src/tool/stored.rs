@@ -1,14 +1,23 @@
-//! What `flic info` shows of a file's bytes as they stand: every field of the file header, of a refused file too, and
-//! the kinds and sizes of chunks. The codec gives neither (its listing ends at 65,536 bytes), so that these few numbers
-//! are taken from the bytes here, and nowhere else in this tool and its crate. Nothing is decided by them: whether a
-//! file is right and where its frames lie, the codec says.
+//! What the tool shows of a file's bytes as they stand: every field of the file header, of a refused file too, and the
+//! kinds and sizes of chunks. The codec gives neither (its listing ends at 65,536 bytes), so that these few numbers are
+//! taken from the bytes here, and nowhere else in this tool and its crate. Whether a file is right, where its frames lie
+//! and which of them can be read, the codec says.
 
-use flic::FILE_HEADER;
+use flic::{Chunk, FILE_HEADER};
 use std::iter;
 
 /// The bytes of a frame chunk's header and of any other chunk's.
 pub const FRAME_HEADER: usize = 16;
-const CHUNK_HEADER: usize = 6;
+pub const CHUNK_HEADER: usize = 6;
+/// A frame chunk, and the chunk that Animator Pro puts before the first.
+pub const FRAME_KIND: u16 = 0xF1FA;
+const PREFIX_KIND: u16 = 0xF100;
+const FRAMES_AT: usize = 6;
+const FLAGS_AT: usize = 14;
+/// Of the first and the second frame.
+const OFFSETS_AT: [usize; 2] = [80, 84];
+/// The flags of a closed reel.
+const CLOSED: u16 = 3;
 
 /// The fields of a file header, with the names of the Animator Pro document.
 #[derive(Clone, Copy, Debug, PartialEq, Eq)]
@@ -47,11 +56,11 @@ impl StoredHeader {
         Some(StoredHeader {
             size: long_at(bytes, 0),
             magic: word_at(bytes, 4),
-            frames: word_at(bytes, 6),
+            frames: word_at(bytes, FRAMES_AT),
             width: word_at(bytes, 8),
             height: word_at(bytes, 10),
             depth: word_at(bytes, 12),
-            flags: word_at(bytes, 14),
+            flags: word_at(bytes, FLAGS_AT),
             speed: long_at(bytes, 16),
             created: long_at(bytes, 22),
             creator: long_at(bytes, 26),
@@ -59,9 +68,113 @@ impl StoredHeader {
             updater: long_at(bytes, 34),
             aspect_x: word_at(bytes, 38),
             aspect_y: word_at(bytes, 40),
-            oframe1: long_at(bytes, 80),
-            oframe2: long_at(bytes, 84),
+            oframe1: long_at(bytes, OFFSETS_AT[0]),
+            oframe2: long_at(bytes, OFFSETS_AT[1]),
         })
+    }
+}
+
+impl StoredHeader {
+    /// Whether the reel was closed.
+    pub fn is_closed(&self) -> bool {
+        self.flags == CLOSED
+    }
+
+    /// The bytes of the reel, where a closed file says so.
+    pub fn reel(&self) -> Option<usize> {
+        Some(self.size as usize).filter(|size| self.is_closed() && *size >= FILE_HEADER)
+    }
+}
+
+/// What a file header says of whoever made a file and when, and another one doesn't.
+pub fn lost(before: &StoredHeader, after: &StoredHeader) -> Vec<String> {
+    let mut lost = Vec::new();
+    let mut compare = |before: String, after: String| {
+        if before != after {
+            lost.push(before);
+        }
+    };
+    compare(format!("created {}", date(before.created)), format!("created {}", date(after.created)));
+    compare(format!("creator {:08X}", before.creator), format!("creator {:08X}", after.creator));
+    compare(format!("updated {}", date(before.updated)), format!("updated {}", date(after.updated)));
+    compare(format!("updater {:08X}", before.updater), format!("updater {:08X}", after.updater));
+    let aspect = |header: &StoredHeader| format!("aspect {}:{}", header.aspect_x, header.aspect_y);
+    compare(aspect(before), aspect(after));
+    lost
+}
+
+/// A date and time in MS-DOS format, or its number where it is none.
+pub fn date(number: u32) -> String {
+    let bits = |from: u32, count: u32| number >> from & ((1 << count) - 1);
+    let (year, month, day) = (1980 + bits(25, 7), bits(21, 4), bits(16, 5));
+    let (hour, minute, second) = (bits(11, 5), bits(5, 6), 2 * bits(0, 5));
+    match (month, day, hour, minute, second) {
+        (1..=12, 1..=31, ..=23, ..=59, ..=59) => {
+            format!("{year}-{month:02}-{day:02} {hour:02}:{minute:02}:{second:02}")
+        }
+        _ => number.to_string(),
+    }
+}
+
+/// A closed reel's file, with these bytes before each of its frames, the ring and its end.
+pub fn with_others(bytes: &[u8], frames: &[Chunk], others: &[Vec<u8>]) -> Vec<u8> {
+    let mut whole = bytes[..FILE_HEADER].to_vec();
+    let mut offsets = Vec::new();
+    for (at, other) in others.iter().enumerate() {
+        whole.extend(other);
+        if let Some(frame) = frames.get(at) {
+            offsets.push(whole.len());
+            whole.extend(&bytes[frame.offset..frame.end()]);
+        }
+    }
+    let size = whole.len();
+    set_long(&mut whole, 0, size);
+    for (at, offset) in OFFSETS_AT.into_iter().zip(offsets) {
+        set_long(&mut whole, at, offset);
+    }
+    whole
+}
+
+/// A file header like the one at the front of these bytes, of a closed reel without bytes behind it: what the codec
+/// says of it, it says of the rest of the fields.
+pub fn mended(bytes: &[u8]) -> Vec<u8> {
+    let mut header = bytes[..bytes.len().min(FILE_HEADER)].to_vec();
+    if header.len() == FILE_HEADER {
+        set_long(&mut header, 0, FILE_HEADER);
+        header[FRAMES_AT..FRAMES_AT + 2].copy_from_slice(&1u16.to_le_bytes());
+        header[FLAGS_AT..FLAGS_AT + 2].copy_from_slice(&CLOSED.to_le_bytes());
+    }
+    header
+}
+
+/// The size that a chunk's header has, at this offset.
+pub fn size_at(bytes: &[u8], at: usize) -> usize {
+    long_at(bytes, at) as usize
+}
+
+/// The frame with the sub-chunk at this offset cut to so many bytes.
+pub fn with_cut(frame: &[u8], at: usize, size: usize) -> Vec<u8> {
+    let mut cut = [&frame[..at + size], &frame[at + size_at(frame, at)..]].concat();
+    set_long(&mut cut, at, size);
+    let whole = cut.len();
+    set_long(&mut cut, 0, whole);
+    cut
+}
+
+/// What a kind of chunk is called.
+pub fn kind_name(kind: u16) -> &'static str {
+    match kind {
+        4 => "colours, 256 levels",
+        7 => "SS2, delta",
+        11 => "colours, 64 levels",
+        12 => "LC, delta",
+        13 => "BLACK, full",
+        15 => "BRUN, full",
+        16 => "COPY, full",
+        18 => "postage stamp",
+        PREFIX_KIND => "prefix",
+        FRAME_KIND => "frame",
+        _ => "unknown",
     }
 }
 
@@ -98,6 +211,11 @@ fn long_at(bytes: &[u8], at: usize) -> u32 {
     u32::from_le_bytes([bytes[at], bytes[at + 1], bytes[at + 2], bytes[at + 3]])
 }
 
+/// The numbers of a file's fields have 4 bytes.
+fn set_long(bytes: &mut [u8], at: usize, number: usize) {
+    bytes[at..at + 4].copy_from_slice(&(number as u32).to_le_bytes());
+}
+
 #[cfg(test)]
 mod tests {
     use super::*;
@@ -128,6 +246,20 @@ mod tests {
         };
         assert_eq!(StoredHeader::of(&bytes), Some(expected));
         assert_eq!(StoredHeader::of(&bytes[1..]), None);
+    }
+
+    #[test]
+    fn dates_of_ms_dos() {
+        assert_eq!(date((1996 - 1980) << 25 | 3 << 21 | 14 << 16 | 15 << 11 | 9 << 5 | 13), "1996-03-14 15:09:26");
+        assert_eq!((date(0), date(u32::MAX)), ("0".to_string(), "4294967295".to_string()));
+    }
+
+    #[test]
+    fn only_what_differs_is_lost() {
+        let header = StoredHeader::of(&[0; FILE_HEADER]).unwrap();
+        let other = StoredHeader { creator: 0x464C_4942, aspect_x: 6, aspect_y: 5, speed: 9, ..header };
+        assert_eq!(lost(&header, &header), [""; 0]);
+        assert_eq!(lost(&other, &header), ["creator 464C4942", "aspect 6:5"]);
     }
 
     /// A frame of count 2: BLACK, an unknown kind with one byte, and a third that the count leaves out.

@@ -1,4 +1,4 @@
-//! `flic play` in a terminal: tmux's, whose screen is looked at. Ignored, since not every machine has tmux:
+//! The tool in a terminal: tmux's, whose screen is looked at. Ignored, since not every machine has tmux:
 //! tests/terminal/run runs them.
 
 mod pane;
@@ -151,4 +151,33 @@ fn what_cannot_be_played_never_takes_the_terminal() {
     assert!(ended.said().starts_with("flic: this terminal can't be drawn on (TERM is dumb): "), "{}", ended.said());
     let ended = Pane::new(170, 40, &format!("{} | cat", play("menu.flc", ""))).ended();
     assert!(ended.said().starts_with("flic: standard output isn't a terminal: "), "{}", ended.said());
+}
+
+#[test]
+#[ignore = "needs tmux"]
+fn progress_fits_the_terminal_and_is_wiped_away() {
+    let name = "boards-".repeat(12) + "menu.flc";
+    // A pipe that nothing comes out of for some seconds.
+    let wait = format!("mkfifo {name}; sleep 5 >{name} & '{}' check {name}", env!("CARGO_BIN_EXE_flic"));
+    let pane = Pane::new(50, 12, &wait);
+    let line = || pane.text().lines().nth(1).unwrap_or_default().to_string();
+    pane.until("the progress", || line().ends_with(" s"));
+    assert!(line().starts_with("checking boa[") && line().len() == 49, "{}", line());
+    assert_eq!(pane.text().lines().nth(2), Some(""));
+    pane.resize(200, 12);
+    pane.until("the whole name", || line().starts_with(&format!("checking {name} .. ")));
+    let said = pane.ended().said().to_string();
+    assert_eq!(
+        said,
+        format!("{name}: refused 4 at offset 0, in the file header: it is empty; copy the file anew\nstatus 1")
+    );
+}
+
+#[test]
+#[ignore = "needs tmux"]
+fn no_reel_is_written_to_a_terminal() {
+    let reel = sample("menu.flc");
+    let pane = Pane::new(120, 12, &format!("'{}' rewrite '{}' -", env!("CARGO_BIN_EXE_flic"), reel.display()));
+    let expected = "flic: standard output is a terminal: send it to a file or a program with > or |\nstatus 1";
+    assert_eq!(pane.ended().said(), expected);
 }

@@ -2,9 +2,14 @@
 
 use std::fs;
 use std::io::Write;
+use std::os::unix::fs::PermissionsExt;
+use std::os::unix::process::CommandExt;
 use std::path::{Path, PathBuf};
 use std::process::{self, Command, Output, Stdio};
 use std::sync::atomic::{AtomicUsize, Ordering};
+
+/// A user who owns nothing, and a group.
+const NOBODY: u32 = 65_534;
 
 pub struct Bench {
     directory: PathBuf,
@@ -84,6 +89,21 @@ impl Bench {
         let mut permissions = fs::metadata(self.path(name)).unwrap().permissions();
         permissions.set_readonly(true);
         fs::set_permissions(self.path(name), permissions).unwrap();
+    }
+
+    /// Lets everyone read and write a file or a directory of the bench.
+    pub fn open_to_all(&self, name: &str) {
+        fs::set_permissions(self.path(name), fs::Permissions::from_mode(0o777)).unwrap();
+    }
+
+    /// Whether the tests run as the system's owner, who alone may run the tool as someone else.
+    pub fn may_become_nobody(&self) -> bool {
+        self.command(&["--version"]).uid(NOBODY).gid(NOBODY).output().is_ok()
+    }
+
+    /// A run as a user who owns nothing.
+    pub fn run_as_nobody(&self, words: &[&str]) -> Run {
+        Run::of(self.command(words).uid(NOBODY).gid(NOBODY).output().unwrap())
     }
 
     pub fn run(&self, words: &[&str]) -> Run {

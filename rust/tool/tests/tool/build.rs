@@ -2,6 +2,8 @@
 
 use crate::bench::Bench;
 use crate::pictures::{pictures, ppm};
+use crate::reels::sloppy;
+use std::collections::HashSet;
 use std::os::unix::fs::symlink;
 
 #[test]
@@ -9,7 +11,7 @@ fn says_what_was_made() {
     let bench = Bench::with_pictures(&pictures(2));
     let said = bench.done(&["build", "reel.flc", "--speed", "1234", "1.ppm", "2.ppm", "--trailer"]);
     let bytes = bench.read("reel.flc");
-    assert_eq!(said, format!("reel.flc: 2 frames and the ring, {} bytes\n", bytes.len()));
+    assert_eq!((said.as_str(), bytes.len()), ("reel.flc: 2 frames and the ring, 2,087 bytes\n", 2_087));
     assert_eq!(bytes[16..20], 1234u32.to_le_bytes());
     assert!(bench.done(&["trailer", "check", "reel.flc"]).contains("a trailer of 20 bytes"));
     assert_eq!(bench.names("."), ["1.ppm", "2.ppm", "reel.flc"]);
@@ -54,14 +56,15 @@ fn wrong_pictures_are_named() {
     bench.write("small.ppm", &ppm(37, 20, |_, _| [0; 3]));
     bench.write("large.ppm", &ppm(321, 1, |_, _| [0; 3]));
     bench.write("bad.ppm", b"P6\n37 21\n255\nfew");
-    bench.write("other.png", b"\x89PNG\r\n");
+    bench.write("other.bmp", b"BM");
     let error = |picture: &str| bench.fails(1, &["build", "reel.flc", "--speed", "70", "1.ppm", picture, "2.ppm"]);
-    assert_eq!(error("colours.ppm"), "flic: colours.ppm: has 777 colours: reduce them to 256\n");
-    let sizes = "flic: small.ppm: is 37 by 20, but 1.ppm is 37 by 21: give pictures of one size\n";
+    assert_eq!(error("colours.ppm"), "flic: colours.ppm: has 777 colours: give --colours 256, or reduce them first\n");
+    let sizes = "flic: small.ppm: is 37 by 20, but 1.ppm is 37 by 21: give --scale 37x21, or pictures of one size\n";
     assert_eq!(error("small.ppm"), sizes);
-    assert!(error("large.ppm").starts_with("flic: large.ppm: is 321 by 1; a board takes 1 to 320 by 1 to 200"));
+    let large = "flic: large.ppm: is 321 by 1; a board takes 1 to 320 by 1 to 200: give --scale 320x200, or ";
+    assert!(error("large.ppm").starts_with(large));
     assert!(error("bad.ppm").starts_with("flic: bad.ppm: is cut short: it has 3 of 2331 bytes of pixels"));
-    assert!(error("other.png").starts_with("flic: other.png: isn't a PPM (P6, P3) or PGM (P5, P2) picture"));
+    assert!(error("other.bmp").starts_with("flic: other.bmp: isn't a PNG, PPM (P6, P3) or PGM (P5, P2) picture"));
     assert!(error("missing.ppm").starts_with("flic: missing.ppm: can't be read: "));
 }
 
@@ -107,7 +110,11 @@ fn only_a_reel_is_replaced() {
     assert_eq!(bench.read("reel.flc"), before);
     let said = bench.done(&["build", "reel.flc", "--speed", "70", "2.ppm"]);
     let after = bench.read("reel.flc");
-    assert_eq!(said, format!("reel.flc: 1 frame and the ring, {} bytes\n", after.len()));
+    let expected = format!(
+        "reel.flc: 1 frame and the ring, {} bytes, in place of 2 frames and the ring, 2,067 bytes\n",
+        after.len()
+    );
+    assert_eq!(said, expected);
     assert_ne!(after, before);
 }
 
@@ -126,4 +133,119 @@ fn what_may_not_be_written_or_read_is_not_replaced() {
 
     // A file that no one can read from its front.
     assert!(error("/proc/self/mem").starts_with("flic: /proc/self/mem: can't be read: "));
+}
+
+#[test]
+fn a_reel_that_another_tool_made_is_replaced_only_by_force() {
+    let bench = Bench::with_reel(&pictures(3));
+    let sloppy = sloppy(&bench.read("reel.flc"));
+    bench.write("reel.flc", &sloppy);
+    let err = bench.fails(1, &["build", "reel.flc", "--speed", "70", "1.ppm"]);
+    assert!(err.starts_with("flic: reel.flc: is there already, 3 frames and the ring, 6,526 bytes, "), "{err}");
+    assert!(err.ends_with("replace it with --force, or give another name\n"), "{err}");
+    assert_eq!(bench.read("reel.flc"), sloppy);
+    bench.write("reel.flc", &sloppy[..1_000]);
+    let err = bench.fails(1, &["build", "reel.flc", "--speed", "70", "1.ppm"]);
+    assert!(err.contains("is there already, a FLC file of 1,000 bytes that a check refuses, "), "{err}");
+    let said = bench.done(&["build", "reel.flc", "--speed", "70", "1.ppm", "--force"]);
+    assert!(said.ends_with(" bytes, in place of a FLC file of 1,000 bytes that a check refuses\n"), "{said}");
+    // What isn't a reel isn't replaced by force either.
+    let err = bench.fails(1, &["build", "1.ppm", "--speed", "70", "2.ppm", "--force"]);
+    assert!(err.starts_with("flic: 1.ppm: is there already and isn't a FLC file"), "{err}");
+    // An empty file holds nothing.
+    bench.write("reel.flc", b"");
+    let said = bench.done(&["build", "reel.flc", "--speed", "70", "1.ppm"]);
+    assert!(!said.contains("in place of"), "{said}");
+}
+
+#[test]
+fn pictures_of_other_programs_are_taken() {
+    let bench = Bench::new();
+    bench.write("dos.ppm", b"P6\r\n# made with care\r\n2 1\r\n255\r\n\x01\x02\x03\x09\x09\x09");
+    bench.write("deep.ppm", b"P6 2 1 65535\n\x01\x01\x02\x02\x03\x03\xFF\xFF\x00\x00\x80\x80");
+    bench.write("few.pgm", b"P2\r\n2 1\r\n15\r\n0 15\r\n");
+    bench.done(&["build", "reel.flc", "--speed", "70", "dos.ppm", "deep.ppm", "few.pgm"]);
+    let shown: Vec<Vec<u8>> = bench.frames("reel.flc", "1").iter().map(|picture| picture[11..].to_vec()).collect();
+    assert_eq!(shown[..3], [[1, 2, 3, 9, 9, 9], [1, 2, 3, 255, 0, 128], [0, 0, 0, 255, 255, 255]]);
+}
+
+/// The colours of the frames of a reel, the ring left out.
+fn shown(bench: &Bench) -> Vec<Vec<[u8; 3]>> {
+    let colours = |picture: &Vec<u8>| {
+        let header = picture.iter().enumerate().filter(|(_, byte)| **byte == b'\n').nth(2).unwrap().0 + 1;
+        picture[header..].chunks(3).map(|pixel| [pixel[0], pixel[1], pixel[2]]).collect()
+    };
+    let mut frames: Vec<Vec<[u8; 3]>> = bench.frames("reel.flc", "1").iter().map(colours).collect();
+    frames.pop();
+    frames
+}
+
+fn count(pixels: &[[u8; 3]]) -> usize {
+    pixels.iter().collect::<HashSet<_>>().len()
+}
+
+#[test]
+fn pictures_are_scaled_where_it_is_asked_for() {
+    let bench = Bench::new();
+    let quarters = |x: usize, y: usize| [(x / 320 * 100) as u8, (y / 240 * 200) as u8, (x % 2 * 90) as u8];
+    bench.write("large.ppm", &ppm(640, 480, quarters));
+    bench.write("small.ppm", &ppm(2, 2, |x, y| [(x * 100) as u8, (y * 200) as u8, 0]));
+    let build = ["build", "reel.flc", "--speed", "70", "large.ppm", "small.ppm"];
+    let err = bench.fails(1, &build);
+    assert!(err.starts_with("flic: large.ppm: is 640 by 480; ") && err.contains("give --scale 320x200"), "{err}");
+    let scaled = |options: &[&str]| {
+        bench.done(&[&build, options].concat());
+        shown(&bench)
+    };
+    // Of the columns that alternate, the odd ones stand under the centres.
+    let nearest = scaled(&["--scale", "320x200"]);
+    let expected = |blue: u8| -> Vec<[u8; 3]> {
+        (0..64_000).map(|at| [(at % 320 / 160 * 100) as u8, (at / 320 / 100 * 200) as u8, blue]).collect()
+    };
+    assert!(nearest == [expected(90), expected(0)]);
+    let average = scaled(&["--scale", "320x200", "--average"]);
+    assert!(average == [expected(45), expected(0)]);
+}
+
+#[test]
+fn colours_are_reduced_where_it_is_asked_for() {
+    let bench = Bench::new();
+    let many =
+        |shift: usize| ppm(64, 64, move |x, y| [(x * 4) as u8, (y * 4) as u8, if x < 8 { shift as u8 } else { 9 }]);
+    bench.write("1.ppm", &many(9));
+    bench.write("2.ppm", &many(80));
+    bench.write("few.ppm", &ppm(64, 64, |x, _| [x as u8, 1, 2]));
+    let build = ["build", "reel.flc", "--speed", "70", "1.ppm", "2.ppm", "few.ppm"];
+    assert_eq!(bench.fails(1, &build), "flic: 1.ppm: has 4096 colours: give --colours 256, or reduce them first\n");
+    for (options, most) in [(&["--colours", "256"][..], 256), (&["--colours", "16", "--dither"][..], 16)] {
+        bench.done(&[&build, options].concat());
+        let frames = shown(&bench);
+        let counts: Vec<usize> = frames.iter().map(|frame| count(frame)).collect();
+        assert!(counts[0] <= most && counts[0] > most / 2 && counts[1] <= most, "{counts:?}");
+        // What stands still in both pictures is the same in both frames.
+        let differ = (0..4_096).filter(|at| at % 64 >= 8 && frames[0][*at] != frames[1][*at]).count();
+        assert_eq!(differ, 0, "{options:?}");
+        let near = |at: usize| {
+            (0..3).all(|level| frames[0][at][level].abs_diff([(at % 64 * 4) as u8, (at / 64 * 4) as u8, 9][level]) < 80)
+        };
+        assert!((0..4_096).all(near), "{options:?}");
+    }
+    // A picture that has no more than were asked for is left alone.
+    bench.done(&[&build[..], &["--colours", "64"]].concat());
+    assert!(shown(&bench)[2] == (0..4_096).map(|at| [(at % 64) as u8, 1, 2]).collect::<Vec<_>>());
+}
+
+#[test]
+fn what_is_asked_for_wrongly_is_said() {
+    let bench = Bench::with_pictures(&pictures(1));
+    let error =
+        |options: &[&str]| bench.fails(2, &[&["build", "reel.flc", "--speed", "70", "1.ppm"], options].concat());
+    for size in ["320", "320x", "0x1", "321x200", "320x201", "x", "a b", "3,2"] {
+        let err = error(&["--scale", size]);
+        assert!(err.starts_with("flic: --scale takes a size from 1x1 to 320x200"), "{err}");
+    }
+    assert!(error(&["--average"]).starts_with("flic: --average is for --scale WxH\n"));
+    assert!(error(&["--dither"]).starts_with("flic: --dither is for --colours N\n"));
+    assert!(error(&["--colours", "257"]).starts_with("flic: --colours takes 2 to 256, not 257\n"));
+    assert!(error(&["--colours", "1"]).starts_with("flic: --colours takes a whole number from 2 to "));
 }

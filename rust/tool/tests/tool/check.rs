@@ -3,6 +3,8 @@
 use crate::bench::Bench;
 use crate::pictures::pictures;
 use flic::{write_frame, CheckedReel};
+use std::fs;
+use std::os::unix::fs::{symlink, PermissionsExt};
 
 /// The line that the check prints of `reel.flc` once it has these bytes, with exit status 1.
 fn refusal(bench: &Bench, bytes: &[u8]) -> String {
@@ -27,8 +29,14 @@ fn refusals_have_their_place_and_frame() {
     let frames = CheckedReel::new(&right).unwrap().frame_chunks().to_vec();
 
     let cut = refusal(&bench, &right[..right.len() - 1]);
-    assert!(cut.starts_with("reel.flc: refused 4 at offset 0, in the file header: the bytes end too soon"), "{cut}");
-    assert!(cut.ends_with("copy the file anew\n"), "{cut}");
+    assert!(
+        cut.starts_with("reel.flc: refused 4 at offset 0, in the file header: it has 2,718 of 2,719 bytes; "),
+        "{cut}"
+    );
+    assert!(
+        cut.ends_with("; copy the file anew, or save the frames that are there with flic repair IN OUT\n"),
+        "{cut}"
+    );
 
     for (frame, part) in frames.iter().zip(["frame 1 of 3", "frame 2 of 3", "frame 3 of 3", "the ring"]) {
         let mut damaged = right.clone();
@@ -80,7 +88,7 @@ fn old_bytes_behind_a_chunk_are_found_and_a_byte_of_padding_is_not() {
     assert_eq!(bench.done(&["check", "reel.flc"]), "reel.flc: ok\n");
     let line = refusal(&bench, &with_spare(2));
     let start = format!("reel.flc: refused 19 at offset {last}, in the ring: more than one spare byte stands");
-    assert!(line.starts_with(&start) && line.contains("make the file anew"), "{line}");
+    assert!(line.starts_with(&start) && line.ends_with("flic repair IN OUT takes them out\n"), "{line}");
 }
 
 #[test]
@@ -89,7 +97,8 @@ fn what_stands_behind_the_reel_is_checked() {
     let mut bytes = bench.read("reel.flc");
     bytes.push(0);
     let line = refusal(&bench, &bytes);
-    assert!(line.starts_with("reel.flc: refused 17 at offset 0, in the trailer: "), "{line}");
+    let expected = "reel.flc: refused 17 at offset 0, in the trailer: the byte behind the reel isn't its trailer; ";
+    assert!(line.starts_with(expected), "{line}");
 }
 
 #[test]
@@ -134,5 +143,103 @@ fn every_file_is_told_of() {
     assert_eq!(run.status, 1);
     assert!(run.err.starts_with("flic: missing.flc: can't be read: "), "{}", run.err);
     assert!(run.out.starts_with("empty.flc: refused 4 at offset 0, in the file header: "), "{}", run.out);
-    assert!(run.out.ends_with("\nreel.flc: ok\n"), "{}", run.out);
+    assert!(run.out.ends_with("\nreel.flc: ok\n1 ok, 1 refused, 1 not checked\n"), "{}", run.out);
+}
+
+#[test]
+fn a_refusal_says_what_was_found_and_what_to_do() {
+    let bench = Bench::with_reel(&pictures(3));
+    let right = bench.read("reel.flc");
+    let with = |changes: &[(usize, u8)]| {
+        let mut bytes = right.clone();
+        changes.iter().for_each(|(at, byte)| bytes[*at] = *byte);
+        bytes
+    };
+    let image = |front: &[u8]| [front, &[7; 200]].concat();
+    let repair = "flic repair IN OUT makes a reel of the frames that are there";
+    let cases: [(Vec<u8>, String); 19] = [
+        (vec![], "4 at offset 0, in the file header: it is empty; copy the file anew".to_string()),
+        (right[..100].to_vec(), "4 at offset 0, in the file header: it has 100 bytes, and a header alone has 128; copy the file anew".to_string()),
+        (right[..200].to_vec(), "4 at offset 0, in the file header: it has 200 of 2,719 bytes; copy the file anew".to_string()),
+        (right[..2_000].to_vec(), "4 at offset 0, in the file header: it has 2,000 of 2,719 bytes; copy the file anew, or save the frames that are there with flic repair IN OUT".to_string()),
+        (with(&[(8, 0x80), (9, 2), (10, 0xE0), (11, 1)]), "2 at offset 0, in the file header: it is 640 by 480, and a board takes at most 320 by 200; make it anew from pictures of a size that the board takes".to_string()),
+        (with(&[(8, 0)]), "2 at offset 0, in the file header: it is 0 by 21, and a board takes at least 1 by 1; make it anew from pictures of a size that the board takes".to_string()),
+        (with(&[(12, 16)]), "14 at offset 0, in the file header: its depth is 16, and a board takes 8 bits a pixel; make the file anew".to_string()),
+        (with(&[(14, 0)]), format!("14 at offset 0, in the file header: it was never closed: its flags are 0, not 3; {repair}")),
+        (with(&[(6, 0)]), format!("14 at offset 0, in the file header: its header says that it has 0 frames, and a reel has 1 to 4,000; {repair}")),
+        (with(&[(7, 0x20)]), format!("14 at offset 0, in the file header: its header says that it has 8,195 frames, and a reel has 1 to 4,000; {repair}")),
+        (with(&[(0, 17), (1, 0)]), "6 at offset 0, in the file header: its header says that it has 17 bytes, less than the header itself; copy the file anew; if it stays, flic repair IN OUT keeps the frames that can be read".to_string()),
+        (with(&[(6, 4)]), format!("15 at offset 2719, in the ring: all its frames are there, but no ring; {repair}")),
+        (with(&[(6, 9)]), format!("15 at offset 2719, in frame 5 of 9: it has 4 of 9 frames, and no ring; {repair}")),
+        (image(b"\x89PNG\r\n\x1a\n"), "5 at offset 0, in the file header: this is a PNG picture; make a reel from pictures with flic build".to_string()),
+        (b"GIF89a".to_vec(), "4 at offset 0, in the file header: this is a GIF; write its pictures out with the tool that made it, then make a reel from them with flic build".to_string()),
+        (image(b"P6\n320 200\n255\n"), "5 at offset 0, in the file header: this is a PPM picture; make a reel from pictures with flic build".to_string()),
+        (with(&[(4, 0x11)]), "5 at offset 0, in the file header: this is a FLI file of the original Animator; convert it with the tool that made it, or write its pictures out and give them to flic build".to_string()),
+        (image(&[7]), "5 at offset 0, in the file header: this isn't a FLC file: its magic is 0707, not AF12; check which file it is".to_string()),
+        ([&right[..], &[1, 2]].concat(), "17 at offset 0, in the trailer: the 2 bytes behind the reel aren't its trailer; write it anew with flic trailer write FILE".to_string()),
+    ];
+    for (bytes, expected) in cases {
+        assert_eq!(refusal(&bench, &bytes), format!("reel.flc: refused {expected}\n"));
+    }
+}
+
+/// A bench with the folder `boards`: two right reels, one of them deeper, a refused one, and other files.
+fn boards() -> Bench {
+    let bench = Bench::with_reel(&pictures(2));
+    let right = bench.read("reel.flc");
+    fs::create_dir_all(bench.path("boards/hall/old")).unwrap();
+    bench.write("boards/hall/old/MENU.FLC", &right);
+    bench.write("boards/a.flc", &right);
+    bench.write("boards/cut.fli", &right[..200]);
+    bench.write("boards/notes.txt", b"");
+    bench.write("boards/.a.flc.1-0.tmp", b"");
+    // A folder that is its own, and one that lies elsewhere.
+    symlink("..", bench.path("boards/hall/up")).unwrap();
+    bench
+}
+
+#[test]
+fn folders_are_gone_down_into() {
+    let bench = boards();
+    let cut =
+        "boards/cut.fli: refused 4 at offset 0, in the file header: it has 200 of 2,067 bytes; copy the file anew\n";
+    let run = bench.run(&["check", "boards"]);
+    let expected = format!("boards/a.flc: ok\n{cut}boards/hall/old/MENU.FLC: ok\n2 ok, 1 refused\n");
+    assert_eq!((run.status, run.out, run.err.as_str()), (1, expected, ""));
+    let run = bench.run(&["check", "-q", "boards", "reel.flc"]);
+    assert_eq!((run.status, run.out.as_str(), run.err.as_str()), (1, cut, ""));
+    fs::remove_file(bench.path("boards/cut.fli")).unwrap();
+    assert_eq!(bench.done(&["check", "boards", "-q"]), "");
+    assert!(bench.done(&["check", "boards", "reel.flc"]).ends_with("reel.flc: ok\n3 ok, 0 refused\n"));
+    assert_eq!(bench.done(&["check", "boards/hall"]), "boards/hall/old/MENU.FLC: ok\n1 ok, 0 refused\n");
+}
+
+#[test]
+fn a_folder_without_reels_is_not_ok() {
+    let bench = boards();
+    fs::create_dir(bench.path("empty")).unwrap();
+    let run = bench.run(&["check", "empty"]);
+    assert_eq!((run.status, run.out.as_str()), (1, "0 ok, 0 refused, 1 not checked\n"));
+    assert_eq!(run.err, "flic: empty: holds no file .flc or .fli\n");
+    if bench.may_become_nobody() {
+        bench.open_to_all(".");
+        fs::set_permissions(bench.path("boards/hall"), fs::Permissions::from_mode(0o700)).unwrap();
+        let run = bench.run_as_nobody(&["check", "boards"]);
+        assert_eq!(
+            run.err,
+            "flic: boards/hall: can't be read: Permission denied (os error 13); check who may read and write there\n"
+        );
+        assert!(run.status == 1 && run.out.ends_with("\n1 ok, 1 refused, 1 not checked\n"), "{}", run.out);
+    }
+}
+
+#[test]
+fn as_json() {
+    let bench = boards();
+    bench.write("boards/a\"\n.flc", b"GIF89a");
+    let run = bench.run(&["check", "--json", "boards", "missing.flc"]);
+    let expected = r#"{"files":[{"file":"boards/a\"\u000a.flc","ok":false,"refusal":{"number":4,"name":"Cut","offset":0,"part":"the file header","found":"this is a GIF","advice":"write its pictures out with the tool that made it, then make a reel from them with flic build"},"error":null},{"file":"boards/a.flc","ok":true,"refusal":null,"error":null},{"file":"boards/cut.fli","ok":false,"refusal":{"number":4,"name":"Cut","offset":0,"part":"the file header","found":"it has 200 of 2,067 bytes","advice":"copy the file anew"},"error":null},{"file":"boards/hall/old/MENU.FLC","ok":true,"refusal":null,"error":null},{"file":"missing.flc","ok":false,"refusal":null,"error":"missing.flc: can't be read: No such file or directory (os error 2); check the name and the directory"}],"ok":2,"refused":2,"unread":1}"#;
+    assert_eq!((run.status, run.out.trim_end(), run.err.as_str()), (1, expected, ""));
+    let quiet = bench.run(&["check", "--json", "-q", "reel.flc"]);
+    assert_eq!((quiet.status, quiet.out.as_str()), (0, "{\"files\":[],\"ok\":1,\"refused\":0,\"unread\":0}\n"));
 }

@@ -41,3 +41,35 @@ fn a_refused_file_shows_its_header() {
     assert!(run.out.contains("flags    0 (not closed)"), "{}", run.out);
     assert!(run.err.starts_with("flic: reel.flc: refused 14 at offset 0, in the file header: "), "{}", run.err);
 }
+
+#[test]
+fn a_wrong_trailer_is_said_behind_the_shares() {
+    let bench = Bench::with_reel(&pictures(1));
+    let bytes = bench.read("reel.flc");
+    bench.write("reel.flc", &[&bytes[..], &[7; 9]].concat());
+    let run = bench.run(&["info", "reel.flc"]);
+    assert!(run.status == 1 && run.out.contains("\nbehind the reel, not its trailer "), "{}", run.out);
+    assert!(run.err.starts_with("flic: reel.flc: refused 17 at offset 0, in the trailer: the 9 bytes "), "{}", run.err);
+}
+
+#[test]
+fn as_json() {
+    let bench = Bench::with_reel(&pictures(3));
+    let text = bench.done(&["info", "--json", "reel.flc"]);
+    let start = r#"{"file":"reel.flc","ok":true,"refusal":null,"header":{"size":2719,"magic":44818,"frames":3,"width":37,"height":21,"depth":8,"flags":3,"speed":70,"created":0,"#;
+    assert!(text.starts_with(start), "{text}");
+    assert!(
+        text.contains(
+            r#""shares":[{"name":"file header","count":1,"bytes":128},{"name":"frame headers","count":4,"bytes":64},"#
+        ),
+        "{text}"
+    );
+    bench.write("reel.flc", b"GIF89a");
+    let run = bench.run(&["info", "--json", "reel.flc"]);
+    assert!(
+        run.out.contains(r#""found":"this is a GIF""#) && run.out.ends_with("\"header\":null,\"shares\":[]}\n"),
+        "{}",
+        run.out
+    );
+    assert_eq!((run.status, run.err.as_str()), (1, ""));
+}

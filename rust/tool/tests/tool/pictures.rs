@@ -20,3 +20,8 @@ pub fn pictures(count: usize) -> Vec<Vec<u8>> {
     };
     (0..count).map(|number| ppm(37, 21, |x, y| colour(number, x, y))).collect()
 }
+
+/// A picture of 320 by 200 pixels that no chunk makes shorter.
+pub fn noise(number: usize) -> Vec<u8> {
+    ppm(320, 200, |x, y| [((x * x + y * number * 31) * (x + y * y + number) % 251) as u8; 3])
+}

@@ -2,34 +2,9 @@
 
 use crate::bench::Bench;
 use crate::pictures::pictures;
-use flic::{CheckedReel, State};
-
-const FRAME: u16 = 0xF1FA;
-
-/// The same reel with every frame a COPY and all colours, a chunk before them, and bytes after the ring.
-fn sloppy(bytes: &[u8]) -> Vec<u8> {
-    let reel = CheckedReel::new(bytes).unwrap();
-    let mut sloppy = bytes[..128].to_vec();
-    sloppy.extend(chunk(0xF100, &[1, 2, 3, 4]));
-    for frame in reel.frames() {
-        sloppy.extend(frame_of(&frame.state));
-    }
-    sloppy.extend([9; 20]);
-    let size = sloppy.len() as u32;
-    sloppy[..4].copy_from_slice(&size.to_le_bytes());
-    sloppy
-}
-
-fn frame_of(state: &State) -> Vec<u8> {
-    let colours = [&[1, 0, 0, 0], &state.palette.bytes()[..]].concat();
-    let chunks = [chunk(4, &colours), chunk(99, b"old bytes"), chunk(16, state.picture.pixels())].concat();
-    chunk(FRAME, &[&[3, 0, 0, 0, 0, 0, 0, 0, 0, 0], &chunks[..]].concat())
-}
-
-fn chunk(kind: u16, body: &[u8]) -> Vec<u8> {
-    let size = body.len() as u32 + 6;
-    [&size.to_le_bytes()[..], &kind.to_le_bytes(), body].concat()
-}
+use crate::reels::sloppy;
+use std::fs;
+use std::os::unix::fs::{chown, MetadataExt, PermissionsExt};
 
 #[test]
 fn the_frames_stay_and_the_bytes_are_the_builder_s() {
@@ -40,7 +15,8 @@ fn the_frames_stay_and_the_bytes_are_the_builder_s() {
     assert_eq!(bench.done(&["check", "sloppy.flc"]), "sloppy.flc: ok\n");
 
     let said = bench.done(&["rewrite", "sloppy.flc", "house.flc"]);
-    assert_eq!(said, format!("house.flc: {} bytes, {} before\n", built.len(), sloppy.len()));
+    let lost = "4 chunks of kind 99 (unknown) in frames, 1 chunk of kind 61696 (prefix) outside frames, 20 bytes after the ring";
+    assert_eq!(said, format!("sloppy.flc: not kept: {lost}\nhouse.flc: 2,719 bytes, 6,526 before\n"));
     assert_eq!(bench.read("house.flc"), built);
     assert_eq!(bench.frames("house.flc", "2"), bench.frames("sloppy.flc", "2"));
     assert_eq!(bench.read("sloppy.flc"), sloppy);
@@ -51,8 +27,17 @@ fn a_reel_can_take_its_own_place() {
     let bench = Bench::with_reel(&pictures(3));
     let built = bench.read("reel.flc");
     bench.write("sloppy.flc", &sloppy(&built));
-    bench.done(&["rewrite", "sloppy.flc", "sloppy.flc"]);
+    let err = bench.fails(1, &["rewrite", "sloppy.flc", "sloppy.flc"]);
+    let expected =
+        "flic: sloppy.flc: is there already, 3 frames and the ring, 6,526 bytes, and isn't as flic writes them: \
+                    replace it with --force, or give another name\n";
+    assert_eq!(err, expected);
+    let said = bench.done(&["rewrite", "sloppy.flc", "sloppy.flc", "--force"]);
+    assert!(said.ends_with("2,719 bytes, 6,526 before, in place of 3 frames and the ring, 6,526 bytes\n"), "{said}");
     assert_eq!(bench.read("sloppy.flc"), built);
+    // What is as the tool writes it can be written again.
+    let said = bench.done(&["rewrite", "sloppy.flc", "sloppy.flc"]);
+    assert_eq!(said, "sloppy.flc: 2,719 bytes, 2,719 before, in place of 3 frames and the ring, 2,719 bytes\n");
 }
 
 #[test]
@@ -75,4 +60,53 @@ fn a_refused_reel_leaves_nothing() {
     assert_eq!(bench.read("reel.flc"), built);
     let err = bench.fails(1, &["rewrite", "reel.flc", "1.ppm"]);
     assert!(err.starts_with("flic: 1.ppm: is there already and isn't a FLC file"), "{err}");
+}
+
+#[test]
+fn dates_and_makers_that_are_lost_are_said() {
+    let bench = Bench::with_reel(&pictures(1));
+    let mut bytes = bench.read("reel.flc");
+    let date = (1996u32 - 1980) << 25 | 3 << 21 | 14 << 16 | 15 << 11 | 9 << 5 | 13;
+    bytes[22..26].copy_from_slice(&date.to_le_bytes());
+    bytes[34..38].copy_from_slice(&0x1234u32.to_le_bytes());
+    bytes[38..42].copy_from_slice(&[6, 0, 5, 0]);
+    bench.write("dated.flc", &bytes);
+    let said = bench.done(&["rewrite", "dated.flc", "house.flc"]);
+    let expected = "dated.flc: not kept: created 1996-03-14 15:09:26, updater 00001234, aspect 6:5\nhouse.flc: ";
+    assert!(said.starts_with(expected), "{said}");
+    assert_eq!(bench.read("house.flc"), bench.read("reel.flc"));
+}
+
+#[test]
+fn owner_and_mode_are_kept() {
+    let bench = Bench::with_reel(&pictures(2));
+    let reel = bench.path("reel.flc");
+    fs::set_permissions(&reel, fs::Permissions::from_mode(0o640)).unwrap();
+    // Only the system's owner can give a file away.
+    let is_root = chown(&reel, Some(1234), Some(4321)).is_ok();
+    let before = fs::metadata(&reel).unwrap();
+    bench.done(&["rewrite", "reel.flc", "reel.flc"]);
+    let after = fs::metadata(&reel).unwrap();
+    assert_eq!((after.uid(), after.gid(), after.mode()), (before.uid(), before.gid(), before.mode()));
+    assert_eq!(after.uid() == 1234, is_root);
+}
+
+#[test]
+fn a_file_whose_owner_cannot_be_kept_stays_as_it_is() {
+    let bench = Bench::with_reel(&pictures(2));
+    let reel = bench.path("reel.flc");
+    if !bench.may_become_nobody() {
+        return;
+    }
+    chown(&reel, Some(1234), Some(4321)).unwrap();
+    bench.open_to_all(".");
+    bench.open_to_all("reel.flc");
+    let before = fs::metadata(&reel).unwrap();
+    let run = bench.run_as_nobody(&["rewrite", "reel.flc", "reel.flc"]);
+    let expected =
+        "flic: reel.flc: can't be written: it belongs to another user or group; give another name, or run this \
+                    as its owner; what was there is as it was\n";
+    assert_eq!((run.status, run.err.as_str()), (1, expected));
+    let after = fs::metadata(&reel).unwrap();
+    assert_eq!((after.ino(), after.uid(), bench.names(".").len()), (before.ino(), 1234, 3));
 }

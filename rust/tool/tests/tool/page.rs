@@ -1,0 +1,45 @@
+//! `flic page`; tests/browser looks at what it shows.
+
+use crate::bench::Bench;
+use crate::pictures::pictures;
+
+#[test]
+fn a_page_is_one_file_that_fetches_nothing() {
+    let bench = Bench::with_reel(&pictures(3));
+    let said = bench.done(&["page", "reel.flc", "page.html"]);
+    let page = String::from_utf8(bench.read("page.html")).unwrap();
+    let (thousands, rest) = (page.len() / 1_000, page.len() % 1_000);
+    assert_eq!(said, format!("page.html: 3 frames and the ring, {thousands},{rest:03} bytes\n"));
+    assert!(page.starts_with("<!DOCTYPE html>\n") && page.ends_with("</html>\n"));
+    assert!(page.contains("<title>reel.flc</title>") && page.contains("reel.flc: 3 frames and the ring, 70 ms each"));
+    assert!(!page.contains("{{"), "every part is filled in");
+    for word in ["http:", "https:", "src=", "href=", "fetch("] {
+        assert!(!page.contains(word), "{word}");
+    }
+    // A frame a line, the ring the last.
+    let frames = page.lines().filter(|line| line.starts_with('"')).count();
+    assert_eq!(frames, 4 + 1, "the frames, the ring and \"use strict\"");
+}
+
+#[test]
+fn a_name_stays_a_name() {
+    let bench = Bench::with_reel(&pictures(1));
+    let name = "<script>alert('{{reel}}')&.flc";
+    bench.write(name, &bench.read("reel.flc"));
+    bench.done(&["page", name, "page.html"]);
+    let page = String::from_utf8(bench.read("page.html")).unwrap();
+    assert!(page.contains("<title>&lt;script&gt;alert('{{reel}}')&amp;.flc</title>"));
+    assert_eq!(page.matches("<script>").count(), 1);
+}
+
+#[test]
+fn only_a_page_is_replaced_without_being_asked() {
+    let bench = Bench::with_reel(&pictures(2));
+    bench.write("mine.html", b"<p>mine");
+    let err = bench.fails(1, &["page", "reel.flc", "mine.html"]);
+    assert_eq!(err, "flic: mine.html: is there already: give another name, or --force to replace it\n");
+    bench.done(&["page", "reel.flc", "mine.html", "--force"]);
+    bench.done(&["page", "reel.flc", "mine.html"]);
+    bench.write("wrong.flc", b"not a reel");
+    assert!(bench.fails(1, &["page", "wrong.flc", "new.html"]).starts_with("flic: wrong.flc: refused 4 at offset 0"));
+}
