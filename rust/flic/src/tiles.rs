@@ -74,6 +74,7 @@ impl TileMap {
         self.rows().map(|row| row.count).sum()
     }
 
+    /// The rows of tiles, from the top.
     pub fn rows(&self) -> impl ExactSizeIterator<Item = TileRow> + '_ {
         self.words.iter().map(|word| {
             let row = boundary::marked_tiles(*word);
