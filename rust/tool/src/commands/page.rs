@@ -31,11 +31,8 @@ fn run(arguments: Arguments) -> Outcome {
     let is_forced = arguments.has("--force");
     let [file, out] = arguments.exactly(["FILE", "OUT.html"])?;
     outputs::may_be_written(&out, MARK, is_forced)?;
-    let progress = Progress::new(format!("checking {}", file.shown()), 0);
     let bytes = files::read_reel(&file)?;
-    let reel = CheckedReel::new(&bytes);
-    drop(progress);
-    let reel = refused::accepted(&file, &bytes, reel)?;
+    let reel = refused::checked(&file, &bytes)?;
 
     let progress = Progress::new(format!("making {}", out.shown()), reel.frame_chunks().len());
     let frames = refused::accepted(&file, &bytes, frames(&reel, &progress))?;

@@ -3,11 +3,9 @@
 use super::Command;
 use crate::tool::arguments::Arguments;
 use crate::tool::failure::{misused, wrong, Outcome};
-use crate::tool::name::Shown;
-use crate::tool::progress::Progress;
 use crate::tool::say::say;
 use crate::tool::{files, refused};
-use flic::{replay, CheckedReel};
+use flic::replay;
 use std::io::{self, Read};
 
 pub const COMMAND: Command = Command {
@@ -28,11 +26,8 @@ fn run(arguments: Arguments) -> Outcome {
     if files::is_standard(&file) {
         return misused("standard input has the readings: give the reel as a file".to_string());
     }
-    let progress = Progress::new(format!("checking {}", file.shown()), 0);
     let bytes = files::read_reel(&file)?;
-    let reel = CheckedReel::new(&bytes);
-    drop(progress);
-    let reel = refused::accepted(&file, &bytes, reel)?;
+    let reel = refused::checked(&file, &bytes)?;
     let mut text = Vec::new();
     if let Err(error) = io::stdin().lock().read_to_end(&mut text) {
         return wrong(format!("standard input can't be read: {error}{}", files::advice(&error)));

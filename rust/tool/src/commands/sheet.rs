@@ -47,11 +47,8 @@ fn run(arguments: Arguments) -> Outcome {
     let [file, out] = arguments.exactly(["FILE", "OUT.png"])?;
     png::needed_for("flic sheet")?;
     outputs::may_be_written(&out, MARK, is_forced)?;
-    let progress = Progress::new(format!("checking {}", file.shown()), 0);
     let bytes = files::read_reel(&file)?;
-    let reel = CheckedReel::new(&bytes);
-    drop(progress);
-    let reel = refused::accepted(&file, &bytes, reel)?;
+    let reel = refused::checked(&file, &bytes)?;
 
     let progress = Progress::new(format!("drawing {}", out.shown()), reel.frame_chunks().len());
     let sheet = drawn(&reel, columns.map(|columns| columns as usize), &progress);

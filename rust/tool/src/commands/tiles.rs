@@ -3,7 +3,6 @@
 use super::Command;
 use crate::tool::arguments::{Arguments, Opt};
 use crate::tool::failure::Outcome;
-use crate::tool::progress::Progress;
 use crate::tool::say::say;
 use crate::tool::{files, refused};
 use flic::{CheckedReel, Frame, Picture, State, TileMap};
@@ -23,11 +22,8 @@ drawn on a blank picture. Where the palette changes too, the line says so: tiles
 fn run(arguments: Arguments) -> Outcome {
     let with_map = arguments.has("--map");
     let [file] = arguments.exactly(["FILE"])?;
-    let progress = Progress::new(format!("checking {}", file.display()), 0);
     let bytes = files::read_reel(&file)?;
-    let reel = CheckedReel::new(&bytes);
-    drop(progress);
-    let reel = refused::accepted(&file, &bytes, reel)?;
+    let reel = refused::checked(&file, &bytes)?;
     for redrawn in redrawn(&reel) {
         say(&redrawn.line())?;
         if with_map {

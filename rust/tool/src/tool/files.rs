@@ -132,16 +132,16 @@ fn put_out(bytes: &[u8]) -> Outcome {
 }
 
 /// Refuses a standard output that would show bytes as letters.
-pub fn no_terminal() -> Outcome {
+fn no_terminal() -> Outcome {
     match io::stdout().is_terminal() {
         true => wrong("standard output is a terminal: send it to a file or a program with > or |".to_string()),
         false => Ok(()),
     }
 }
 
-/// Refuses a target whose loss would be noticed: anything but a FLC file that may be written. Standard output must not
-/// be a terminal.
-pub fn may_be_replaced(target: &Path) -> Outcome {
+/// Refuses a target that can't be written, and one that is there already and isn't ours to replace: why says so then.
+/// Standard output must not be a terminal.
+pub fn may_be_taken(target: &Path, is_ours: impl FnOnce() -> Outcome<bool>, why: &str) -> Outcome {
     if is_standard(target) {
         return no_terminal();
     }
@@ -153,10 +153,16 @@ pub fn may_be_replaced(target: &Path) -> Outcome {
         Ok(about) if about.permissions().readonly() => {
             "is write-protected: make it writable first, or give another name"
         }
-        Ok(_) if is_flc_or_empty(target)? => return Ok(()),
-        Ok(_) => "is there already and isn't a FLC file: give another name, or remove it first",
+        Ok(_) if is_ours()? => return Ok(()),
+        Ok(_) => why,
     };
     wrong(format!("{}: {why}", target.shown()))
+}
+
+/// Refuses a target whose loss would be noticed: anything but a FLC file that may be written.
+pub fn may_be_replaced(target: &Path) -> Outcome {
+    let why = "is there already and isn't a FLC file: give another name, or remove it first";
+    may_be_taken(target, || is_flc_or_empty(target), why)
 }
 
 fn is_flc_or_empty(file: &Path) -> Outcome<bool> {

@@ -4,9 +4,10 @@ use super::failure::{Failure, Outcome};
 use super::foreign::foreign;
 use super::name::Shown;
 use super::numbers::{counted, grouped};
+use super::progress::Progress;
 use super::salvage::Salvage;
 use super::stored::StoredHeader;
-use flic::{part_of, Header, Part, Refusal, Refused, State, FILE_HEADER, MOST_FRAMES, TRAILER_MOST};
+use flic::{part_of, CheckedReel, Header, Part, Refusal, Refused, State, FILE_HEADER, MOST_FRAMES, TRAILER_MOST};
 use std::fmt;
 use std::path::Path;
 
@@ -51,6 +52,14 @@ pub fn line(file: &Path, bytes: &[u8], refused: Refused) -> String {
 /// The result of a call on a file's bytes, its refusal told as a failure.
 pub fn accepted<T>(file: &Path, bytes: &[u8], result: flic::Result<T>) -> Outcome<T> {
     result.map_err(|refused| Failure::Wrong(line(file, bytes, refused)))
+}
+
+/// A file's bytes as a checked reel, its refusal told as a failure; shows that it is at work.
+pub fn checked<'a>(file: &Path, bytes: &'a [u8]) -> Outcome<CheckedReel<'a>> {
+    let progress = Progress::new(format!("checking {}", file.shown()), 0);
+    let reel = CheckedReel::new(bytes);
+    drop(progress);
+    accepted(file, bytes, reel)
 }
 
 /// Whether the refusal may come from a file of another type: a short one is cut before its type is looked at.
