@@ -8,7 +8,6 @@ ghost use lib.ListN.{length};
 ghost use Rattle.words.specs.Words.{same};
 ghost use Rattle.words.specs.Writes.{put};
 ghost use Rattle.format.specs.Format.{FLI-BRUN};
-ghost use Rattle.format.specs.Limits.{maxArea};
 ghost use Rattle.answer.specs.Answer.{toldWritten};
 ghost use Rattle.state.specs.State.{state, Picture, Exact};
 ghost use Rattle.state.specs.Outcome.{lentBytes, leaves, fitted};

@@ -1,5 +1,5 @@
 -- The second pair holds what was found: what is put back after a refusal.
-use mathlib.Core.Path.{_≡_, ap₂, _∙_, sym}
+use mathlib.Core.Path.{ap₂, _∙_, sym}
 use borrow.Author.Needs.{needs}
 use Rattle.state.specs.State.{state}
 use Rattle.read_frame.proofs.play_over.Statement.{statement}

@@ -1,11 +1,9 @@
 -- A refused dry pass has changed nothing; after one that is done the wet one is done too, over the state as it was found.
-use mathlib.Core.Path.{_≡_, ap, ap₂, _∙_, sym}
-use mathlib.Core.List.{List}
-use Prim.Native.Nat.{ℕ}
+use mathlib.Core.Path.{ap, ap₂, _∙_, sym}
 use native.Mathlib.Omega.{arith}
 use borrow.Author.Needs.{needs}
 use Rattle.words.specs.Writes.{applied}
-use Rattle.state.specs.State.{State, state}
+use Rattle.state.specs.State.{state}
 use Rattle.read_frame.specs.Frame.{subChunks}
 use Rattle.read_frame.proofs.Laws.{settled-done}
 use Rattle.read_frame.proofs.play_twice.Statement.{statement}

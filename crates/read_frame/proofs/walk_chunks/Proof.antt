@@ -1,12 +1,11 @@
 -- The invariant: the sub-chunks that are left, on the state as it is now, give what all of them give on the state as it was found.
 use mathlib.Core.Path.{_≡_, ap₂, _∙_, sym, refl}
-use mathlib.Core.List.{List}
-use Prim.Native.Nat.{ℕ, _≤_, _+_}
+use Prim.Native.Nat.{_≤_}
 use native.Mathlib.Omega.{arith}
 use borrow.Author.Needs.{needs}
 use lib.ListN.{length}
 use Rattle.chunks.proofs.Headers.{header-in}
-use Rattle.state.specs.State.{State, state}
+use Rattle.state.specs.State.{state}
 use Rattle.read_frame.specs.Frame.{subChunks}
 use Rattle.read_frame.proofs.Laws.{seen, seen-gives, seen-none, seen-fault, seen-good, seen-bad}
 use Rattle.read_frame.proofs.walk_chunks.Statement.{statement}

@@ -1,7 +1,5 @@
 -- A dry pass is the check, in which the row doesn't matter; a wet one does the writes.
 use mathlib.Core.Path.{ap, _∙_, sym}
-use mathlib.Core.List.{List}
-use Prim.Native.Nat.{ℕ}
 use borrow.Author.Needs.{needs}
 use Rattle.walk.specs.Walk.{wrote}
 use Rattle.walk.specs.declared.Pass.{Pass}
