@@ -1,4 +1,4 @@
-/* Crookribbon: the FLC codec for C. Link libcapi.a, which `rt staticlib capi` makes in target/staticlib/.
+/* Crookribbon: the FLC and FLI codec for C. Link libcapi.a, which `rt staticlib capi` makes in target/staticlib/.
  *
  * No call trusts its caller: any bytes, sizes and lengths may be handed in. A pointer may be anything but null
  * where its length is 0; otherwise it points to that many bytes, and no two lent slices of one call overlap.
@@ -13,15 +13,24 @@
 extern "C" {
 #endif
 
-/* The version of this header and of the library that goes with it: 10000 * 0 + 100 * 1 + 0. */
-#define FLIC_VERSION "0.1.0"
-#define FLIC_VERSION_NUMBER 100
+/* The version of this header and of the library that goes with it: 10000 * 0 + 100 * 2 + 0. */
+#define FLIC_VERSION "0.2.0"
+#define FLIC_VERSION_NUMBER 200
+
+/* The format of a frame or a reel: FLC (Animator Pro), or FLI (the original Animator), which the boards of 320 by 200
+ * take. As a parameter any number but 0 is FLI; in an answer it is one of these two. */
+#define FLIC_FLC 0
+#define FLIC_FLI 1
 
 /* Limits: a picture is 1 to 320 by 1 to 200, a reel has 1 to 4,000 frames and then the ring. */
 #define FLIC_WIDTH_MOST 320
 #define FLIC_HEIGHT_MOST 200
 #define FLIC_PIXELS_MOST 64000
 #define FLIC_FRAMES_MOST 4000
+/* A picture of an FLI is 320 by 200 and nothing else; its delay is at most 65,535 jiffies of 1/70 second. */
+#define FLIC_FLI_WIDTH 320
+#define FLIC_FLI_HEIGHT 200
+#define FLIC_JIFFIES_MOST 65535
 /* The bytes of a palette: red, green and blue of 256 entries. */
 #define FLIC_PALETTE 768
 /* The bytes of a file header, behind which the first chunk begins. */
@@ -56,6 +65,7 @@ enum {
     FLIC_BAD_TRAILER = 17,
     FLIC_WRONG_TIME = 18,
     FLIC_SPARE_BYTES = 19,
+    FLIC_NOT_IN_FLI = 20,
 };
 
 /* What a number means, in words; an empty text for a number that no call gives. */
@@ -63,10 +73,10 @@ static inline const char *flic_meaning(uint32_t number) {
     switch (number) {
     case FLIC_DONE: return "done";
     case FLIC_SHORT_SLICE: return "a picture has fewer pixels than width times height, or a palette fewer than 768 bytes";
-    case FLIC_BAD_SIZE: return "the width isn't 1 to 320, the height isn't 1 to 200, or two pictures differ in size";
+    case FLIC_BAD_SIZE: return "the width isn't 1 to 320, the height isn't 1 to 200, an FLI isn't 320 by 200, or two pictures differ in size";
     case FLIC_NO_ROOM: return "there is no room for what is to be written";
     case FLIC_CUT: return "the bytes end too soon, or a size runs past what encloses it";
-    case FLIC_WRONG_TYPE: return "this isn't a FLC file, or not a frame of one";
+    case FLIC_WRONG_TYPE: return "this is no FLC or FLI file, or no frame of one, or an FLI where an FLC is asked for";
     case FLIC_SMALL_SIZE: return "a size is less than its own header";
     case FLIC_BODY_ENDS: return "a chunk ends before its data";
     case FLIC_ZERO_COUNT: return "a BRUN packet has count 0";
@@ -75,12 +85,13 @@ static inline const char *flic_meaning(uint32_t number) {
     case FLIC_BAD_WORD: return "a delta chunk holds a word that has no meaning there";
     case FLIC_PAST_PALETTE: return "a colour packet runs past entry 255";
     case FLIC_OVER_LEVEL: return "a colour level is over 63";
-    case FLIC_BAD_HEADER: return "the depth isn't 8, the frames aren't 1 to 4,000, or the file was never closed";
+    case FLIC_BAD_HEADER: return "the depth isn't 8, the frames aren't 1 to 4,000, the flags aren't those of a closed file, or a delay is over 65,535 jiffies";
     case FLIC_FEW_FRAMES: return "frames or the ring are missing";
     case FLIC_BAD_RING: return "the ring doesn't lead back to frame 1";
     case FLIC_BAD_TRAILER: return "what stands behind the reel isn't its trailer";
     case FLIC_WRONG_TIME: return "a reel takes 1 to 4,000 frames, and is closed once";
     case FLIC_SPARE_BYTES: return "more than one spare byte stands behind a chunk's data";
+    case FLIC_NOT_IN_FLI: return "an FLI holds a chunk of kind 7 or 18, which only an FLC may hold";
     default: return "";
     }
 }
@@ -94,10 +105,12 @@ typedef struct {
 
 /* Reads one frame chunk against the picture (width * height bytes, row by row) and the palette
  * (768 bytes, red, green, blue) that show, and changes both in place. Longer slices keep their excess.
+ * format: FLIC_FLC or FLIC_FLI, as the file's header says. In an FLI a size other than 320 by 200 is refused 2, and a
+ * sub-chunk of kind 7 or 18 is refused 20, as its header is met.
  * Behind the data of a sub-chunk of kind 4, 7, 11, 12, 13, 15 or 16 one byte may stand, as padding; more are refused
  * 19, with the sub-chunk's header as the place. Bytes after the last sub-chunk and after the size are ignored. */
 flic_answer flic_read_frame(const uint8_t *bytes, size_t bytes_len,
-                            uint64_t width, uint64_t height,
+                            uint32_t format, uint64_t width, uint64_t height,
                             uint8_t *picture, size_t picture_len,
                             uint8_t *palette, size_t palette_len);
 
@@ -109,8 +122,9 @@ typedef struct {
     uint64_t length;
 } flic_written;
 
-/* Writes, in house form, the frame chunk that leads from the previous picture and palette to the next. */
-flic_written flic_write_frame(uint64_t width, uint64_t height,
+/* Writes, in house form, the frame chunk that leads from the previous picture and palette to the next. The delta of an
+ * FLC is kind 7, that of an FLI kind 12; all else is the same in both formats. */
+flic_written flic_write_frame(uint32_t format, uint64_t width, uint64_t height,
                               const uint8_t *previous_picture, size_t previous_picture_len,
                               const uint8_t *previous_palette, size_t previous_palette_len,
                               const uint8_t *next_picture, size_t next_picture_len,
@@ -120,7 +134,7 @@ flic_written flic_write_frame(uint64_t width, uint64_t height,
 /* Reads a frame chunk against the previous picture and palette and writes it anew in house form.
  * The working pair holds the next picture and palette when done or refused 3, else stays as it was. */
 flic_written flic_rewrite_frame(const uint8_t *bytes, size_t bytes_len,
-                                uint64_t width, uint64_t height,
+                                uint32_t format, uint64_t width, uint64_t height,
                                 const uint8_t *previous_picture, size_t previous_picture_len,
                                 const uint8_t *previous_palette, size_t previous_palette_len,
                                 uint8_t *work_picture, size_t work_picture_len,
@@ -132,9 +146,9 @@ flic_written flic_rewrite_frame(const uint8_t *bytes, size_t bytes_len,
  * done or refused, the first holds the state after the last accepted frame and the second that after frame 1, either
  * blank (all 0) for none; a longer slice keeps its excess.
  *
- * Checks the file header, plays every frame and the ring, and compares: refused 16, with the ring's offset as its
- * place, if the ring doesn't lead back to frame 1's picture and palette. In the first pair the ring counts too.
- * What follows the ring is ignored. */
+ * Checks the file header, whose magic says which format it is (5: neither), plays every frame and the ring, and
+ * compares: refused 16, with the ring's offset as its place, if the ring doesn't lead back to frame 1's picture and
+ * palette. In the first pair the ring counts too. What follows the ring is ignored. */
 flic_answer flic_check_reel(const uint8_t *bytes, size_t bytes_len,
                             uint8_t *first_picture, size_t first_picture_len,
                             uint8_t *first_palette, size_t first_palette_len,
@@ -142,10 +156,11 @@ flic_answer flic_check_reel(const uint8_t *bytes, size_t bytes_len,
                             uint8_t *second_palette, size_t second_palette_len);
 
 /* A reel being built, handed from call to call by value. Keep it as it came: what was altered is refused where it
- * doesn't fit the bytes. closed: 0 while frames can be added, else the file is whole and end is its size. */
+ * doesn't fit the bytes. closed: 0 while frames can be added, else the file is whole and end is its size. format:
+ * FLIC_FLC or FLIC_FLI, by which call it was opened. */
 typedef struct {
     uint64_t width, height, frames, end;
-    uint32_t closed;
+    uint32_t closed, format;
 } flic_reel;
 
 /* number 0: done, with the reel as it is now. A refusal has the reel as it was handed in (an open: all 0), and leaves
@@ -156,7 +171,7 @@ typedef struct {
     flic_reel reel;
 } flic_reel_answer;
 
-/* Opens a reel at the front of the lent bytes: writes the file header, 128 bytes. speed: milliseconds a frame shows.
+/* Opens an FLC at the front of the lent bytes: writes the file header, 128 bytes. speed: milliseconds a frame shows.
  * A reel of n frames never needs more than 128 + (n + 1) * FLIC_FRAME_MOST bytes.
  *
  * A reel of n pictures, with buffers shown_picture and shown_palette for what shows, all 0 at first:
@@ -176,6 +191,12 @@ typedef struct {
 flic_reel_answer flic_open_reel(uint64_t width, uint64_t height, uint32_t speed,
                                 uint8_t *bytes, size_t bytes_len);
 
+/* Opens an FLI, to which frames are added and which is closed as an FLC is. jiffies: for how many of 1/70 second a
+ * frame shows; flic_in_jiffies makes them of milliseconds. Refused 2 unless it is 320 by 200, then 14 for more than
+ * 65,535, then 3. */
+flic_reel_answer flic_open_fli(uint64_t width, uint64_t height, uint32_t jiffies,
+                               uint8_t *bytes, size_t bytes_len);
+
 /* Adds the frame that leads from the picture and palette that show to the next. Hand in, as what shows, what the
  * last add asked for, and blank (all 0) at first. */
 flic_reel_answer flic_add_frame(flic_reel reel, uint8_t *bytes, size_t bytes_len,
@@ -185,14 +206,17 @@ flic_reel_answer flic_add_frame(flic_reel reel, uint8_t *bytes, size_t bytes_len
                                 const uint8_t *next_palette, size_t next_palette_len);
 
 /* Closes a reel: plays its frames from the bytes, writes the ring from the state in which that ends back to frame 1's,
- * and sets size, frames, flags and both frame offsets in the header. The first end bytes are then the file. */
+ * and sets size, frames, flags and both frame offsets in the header, of an FLI size and frames alone. The first end
+ * bytes are then the file. */
 flic_reel_answer flic_close_reel(flic_reel reel, uint8_t *bytes, size_t bytes_len,
                                  uint8_t *first_picture, size_t first_picture_len,
                                  uint8_t *first_palette, size_t first_palette_len,
                                  uint8_t *second_picture, size_t second_picture_len,
                                  uint8_t *second_palette, size_t second_palette_len);
 
-/* Checks what stands behind a reel in its file: nothing, or its index of frame offsets and trailer; anything else is
+/* Trailers and listings are of FLC files; an FLI is refused 5.
+ *
+ * Checks what stands behind a reel in its file: nothing, or its index of frame offsets and trailer; anything else is
  * refused 17. Walks the header and the chunks first, and opens no frame: a damaged frame is found by flic_check_reel. */
 flic_answer flic_check_trailer(const uint8_t *bytes, size_t bytes_len);
 
@@ -218,12 +242,13 @@ typedef struct {
 flic_row_cost flic_search_row(const uint8_t *row, size_t row_len);
 
 /* What the file header says, so that a caller needs no parser of its own. number 0: accepted, with the picture's width
- * and height, how many frames there are (the ring not counted), the reel's size in bytes, and for how many milliseconds
- * a frame shows. A refusal has place 0 and all fields 0. */
+ * and height, how many frames there are (the ring not counted), the reel's size in bytes, for how many milliseconds
+ * a frame shows, in an FLI too (flic_in_jiffies gives its jiffies back), and the format, FLIC_FLC or FLIC_FLI. A refusal
+ * has place 0 and all fields 0. */
 typedef struct {
     uint32_t number;
     uint64_t place, width, height, frames, size;
-    uint32_t speed;
+    uint32_t speed, format;
 } flic_header;
 
 /* Reads the file header: refused as flic_check_reel refuses it, in the same order (4, 5, 6, 4, 2, 14). The bytes are
@@ -248,7 +273,7 @@ typedef struct {
  *     for (uint64_t i = 0; h.number == 0 && i <= h.frames; i++) {
  *         flic_span frame = flic_next_frame(file, h.size, at);
  *         if (frame.number != 0) break;
- *         flic_answer a = flic_read_frame(file + frame.from, frame.end - frame.from, h.width, h.height,
+ *         flic_answer a = flic_read_frame(file + frame.from, frame.end - frame.from, h.format, h.width, h.height,
  *                                         picture, h.width * h.height, palette, 768);
  *         if (a.number != 0) break;
  *         show(picture, palette, h.speed);
@@ -258,17 +283,29 @@ typedef struct {
  * Further laps begin with frame 2, since the ring, the last of them, shows frame 1 again. */
 flic_span flic_next_frame(const uint8_t *bytes, size_t bytes_len, uint64_t at);
 
+/* number 0: done, with the delay in the other unit. A refusal has place 0 and delay 0. */
+typedef struct {
+    uint32_t number;
+    uint64_t place;
+    uint32_t delay;
+} flic_delay;
+
+/* A delay in jiffies of 1/70 second as milliseconds, rounded down, and one in milliseconds as jiffies, rounded up: what
+ * was in jiffies is the same after both. Refused 14 for more than 65,535 jiffies, handed in or given. */
+flic_delay flic_in_milliseconds(uint32_t jiffies);
+flic_delay flic_in_jiffies(uint32_t milliseconds);
+
 /* A player that keeps time: a reel played after a clock of milliseconds, a counter of 32 bits that rolls over after 49
  * days. The record is changed in place by each tick. Keep it as it came: of what was altered, what doesn't fit the
  * bytes is refused at the next tick that draws. The speed alone may be set anew at any time.
  *
  * number: of the frame that shows, from 1; the ring is frames + 1. place: where the next frame is looked for, the end
  * of the frame that shows, or of frame 1 if that is the ring. first_end: where frame 1 ends. speed: for how many
- * milliseconds a frame shows, 0 being one a tick, and half the range (2^31) or more for ever. last: the last draw
- * time. */
+ * milliseconds a frame shows, in an FLI too, 0 being one a tick, and half the range (2^31) or more for ever. last: the
+ * last draw time. format: FLIC_FLC or FLIC_FLI. */
 typedef struct {
     uint64_t width, height, frames, number, place, first_end;
-    uint32_t speed, last;
+    uint32_t speed, last, format;
 } flic_player;
 
 /* number 0: done, with the player. A refusal has a player that is all 0. */

@@ -6,7 +6,7 @@ use native.Mathlib.Omega.{arith}
 use lib.ListN.{getD}
 use Rattle.answer.specs.Answer.{number, told, toldWritten}
 use Rattle.answer.specs.declared.Refusal.{Refusal}
-use Rattle.answer.specs.declared.Refusal.the-variants.{ShortSlice, BadSize, NoRoom, Cut, WrongType, SmallSize, BodyEnds, ZeroCount, PastWidth, PastHeight, BadWord, PastPalette, OverLevel, BadHeader, FewFrames, BadRing, BadTrailer, WrongTime, SpareBytes}
+use Rattle.answer.specs.declared.Refusal.the-variants.{ShortSlice, BadSize, NoRoom, Cut, WrongType, SmallSize, BodyEnds, ZeroCount, PastWidth, PastHeight, BadWord, PastPalette, OverLevel, BadHeader, FewFrames, BadRing, BadTrailer, WrongTime, SpareBytes, NotInFli}
 use Rattle.answer.specs.declared.Answer.{Answer}
 use Rattle.answer.specs.declared.Answer.the-variants.{Done, Refused}
 use Rattle.answer.specs.declared.Written.{Written}
@@ -17,7 +17,7 @@ use Rattle.answer.specs.declared.Written.the-variants as written
 refusals : List Refusal
 refusals =
     ShortSlice ∷ BadSize ∷ NoRoom ∷ Cut ∷ WrongType ∷ SmallSize ∷ BodyEnds ∷ ZeroCount ∷ PastWidth ∷ PastHeight ∷ BadWord ∷ PastPalette
-    ∷ OverLevel ∷ BadHeader ∷ FewFrames ∷ BadRing ∷ BadTrailer ∷ WrongTime ∷ SpareBytes ∷ []
+    ∷ OverLevel ∷ BadHeader ∷ FewFrames ∷ BadRing ∷ BadTrailer ∷ WrongTime ∷ SpareBytes ∷ NotInFli ∷ []
 
 -- the refusal of a number
 numbered : ℕ → Refusal
@@ -44,6 +44,7 @@ numbered-number BadRing = refl
 numbered-number BadTrailer = refl
 numbered-number WrongTime = refl
 numbered-number SpareBytes = refl
+numbered-number NotInFli = refl
 
 pub number-injective : (d e : Refusal) → number d ≡ number e → d ≡ e
 number-injective d e p = sym (numbered-number d) ∙ ap numbered p ∙ numbered-number e
@@ -87,3 +88,4 @@ number-small BadRing = omega arith
 number-small BadTrailer = omega arith
 number-small WrongTime = omega arith
 number-small SpareBytes = omega arith
+number-small NotInFli = omega arith

@@ -42,6 +42,8 @@ pub enum Refusal {
     WrongTime,
     // 19: more than one spare byte after a sub-chunk's data
     SpareBytes,
+    // 20: a kind 7 or 18 in an FLI
+    NotInFli,
 }
 
 // Done, or a refusal with its place.
@@ -80,5 +82,6 @@ pub fn number_of(e: Refusal) -> u32
         Refusal::BadTrailer => 17,
         Refusal::WrongTime => 18,
         Refusal::SpareBytes => 19,
+        Refusal::NotInFli => 20,
     }
 }

@@ -4,7 +4,7 @@
 use mathlib.Core.Path.{_≡_, refl, sym, ap, ap₂, _∙_, subst}
 use mathlib.Core.List.{List, [], _∷_, _++_}
 use mathlib.Core.Bool.{Bool, true, _&&_, cond}
-use Prim.Native.Nat.{ℕ, zero, suc, _+_, _*_, _-_, _%_, _^_, _≤_, _<_}
+use Prim.Native.Nat.{ℕ, zero, suc, _+_, _-_, _%_, _^_, _≤_, _<_}
 use native.Mathlib.Omega.{arith}
 use borrow.Author.Tests.{eq-eqb, ne-eqb, eqb-true, eqb-false, ltb-true, ltb-false}
 use lib.Dec.{eqb, ltb}
@@ -12,7 +12,9 @@ use lib.ListN.{length, getD, take, drop, length-append, length-take}
 use lib.Seq.{take-take, drop-cons, getD-append-seam, take-at, drop-append-seam}
 use Rattle.words.specs.Words.{part}
 use Rattle.words.proofs.Tests.{by-test, cond-holds}
-use Rattle.format.specs.Limits.{area, sizeOk, sizeOf}
+use Rattle.format.specs.Limits.{area, sizeFits, sizeOf, formatFrom, formatNumber}
+use Rattle.format.specs.declared.Format.{Format}
+use Rattle.format.specs.declared.Format.the-variants.{Flc, Fli}
 use Rattle.format.specs.declared.Size.{Size}
 use Rattle.format.proofs.Laws.{size-in}
 use Rattle.answer.specs.Answer.{Said, done, refused, told}
@@ -38,6 +40,7 @@ use Rattle.reel_laws.specs.Laps.{Reads, LeadsBack}
 use Rattle.reel_laws.specs.Laps as laps
 use Rattle.reel_laws.proofs.Laps.{blank-exact, reads-played, one-read, accepted-leads-back}
 use Rattle.reel_header.specs.Head.{headOf}
+use Rattle.reel_header.specs.declared.Takes.the-variants.{Both}
 use Rattle.reel_header.specs.declared.Head.{Head}
 use Rattle.reel_header.specs.declared.Head.the-variants as head
 use Rattle.reel_header.proofs.Laws.{ReelIn, head-in}
@@ -45,7 +48,7 @@ use Rattle.reel_check.specs.Check.{ringAnswer, checkedBy, afterHead, checkReel}
 use Rattle.board_clock.specs.Clock.{follows, stands, stepped}
 use Rattle.board_clock.proofs.Laws.{follows-more, follows-ring}
 use Rattle.board_player.specs.declared.Player.{Player}
-use Rattle.board_player.specs.Player.{NOTHING, DRAWN, SET-BACK, standing, placeAfter, PlayerOutcome, plays}
+use Rattle.board_player.specs.Player.{NOTHING, DRAWN, SET-BACK, playerSize, standing, placeAfter, PlayerOutcome, plays}
 use Rattle.board_player.specs.Ticking.{draw, clockOf, tick}
 use Rattle.board_player.specs.Starting.{placed, startedBy, startPlayer}
 use Rattle.board_player.proofs.Laws.{record-fits, draw-one, placed-at, start-done}
@@ -53,6 +56,11 @@ use Rattle.board_laws.proofs.Ticks.{drawnThen, TickIs, idle, back, draw
 use Rattle.board_laws.proofs.Ticks as ticks
 use Rattle.board_laws.specs.Playing as shown
 use Rattle.board_laws.specs.Playing.{Playing, playing, ticked, says, after, Unrefused, allStates, stateOf, PlayerShows, started}
+
+-- a format is the one that its number stands for
+number-back : (f : Format) → f ≡ formatFrom (formatNumber f)
+number-back Flc = refl
+number-back Fli = refl
 
 -- a part of a prefix
 part-prefix : (n from k : ℕ) (b : List ℕ) → from + k ≤ n → take k (drop from (take n b)) ≡ take k (drop from b)
@@ -70,7 +78,7 @@ module _ (z : Size) (b : List ℕ) where
     next : {at : ℕ} {s : State} {ts : List State} (from end : ℕ) (t : State) → oneFrame Loose z b at s ≡ ran (To from end) t → Exact z t → end ≤ length b → Plays end t ts
         → Plays at s (t ∷ ts)
 
-module _ (z : Size) (ok : sizeOk (z .width) (z .height) ≡ true) where
+module _ (z : Size) (ok : sizeFits z ≡ true) where
   -- what a frame that was read came to
   record WasRead (f : List ℕ) (s t : State) : Type 0 where
     pub accepted : frame z f .answer ≡ Done
@@ -145,8 +153,7 @@ module _ {b : List ℕ} (reel : LeadsBack b) where
     pub k : ℕ
     pub some : 1 ≤ k
     pub most : k ≤ count
-    pub width-is : x .player .width ≡ z .width
-    pub height-is : x .player .height ≡ z .height
+    pub size-is : z ≡ playerSize (x .player)
     pub frames-is : x .player .frames ≡ count
     pub second-is : x .player .second ≡ reel .second
     pub least-number : 1 ≤ x .player .number
@@ -159,8 +166,8 @@ module _ {b : List ℕ} (reel : LeadsBack b) where
     pub plays : Plays z b (x .player .place) (stateOf reel k) (drop k (allStates reel))
 
   -- the header is in range
-  inside : ReelIn b (z .width) (z .height) count (reel .size)
-  inside = head-in b _ (reel .head)
+  inside : ReelIn b z count (reel .size)
+  inside = head-in Both b _ (reel .head)
 
   -- the frame that comes next
   record Ahead (at : ℕ) (s t : State) (ts : List State) : Type 0 where
@@ -176,7 +183,7 @@ module _ {b : List ℕ} (reel : LeadsBack b) where
 
   -- frame 1, and the lap behind it
   blank-start : Exact z (blank (area z))
-  blank-start = blank-exact z (size-in (z .width) (z .height) (inside .sized))
+  blank-start = blank-exact z (size-in z (inside .sized))
 
   record Lap : Type 0 where
     pub exact : Exact z (reel .one)
@@ -195,9 +202,6 @@ module _ {b : List ℕ} (reel : LeadsBack b) where
     abbrev p : Player
     p = x .player
 
-    area-is : area z ≡ p .width * p .height
-    area-is = sym (ap₂ (λ (m n : ℕ). m * n) (v .width-is) (v .height-is))
-
     next-one : Ahead (p .place) (stateOf reel (v .k)) (stateOf reel (suc (v .k))) (drop (suc (v .k)) (allStates reel))
     next-one = ahead (subst (Plays z b (p .place) (stateOf reel (v .k))) (behind-state (v .k) (v .most)) (v .plays))
 
@@ -205,11 +209,10 @@ module _ {b : List ℕ} (reel : LeadsBack b) where
     draws : draw p b (x .pair) ≡ ran (To (next-one .from) (next-one .end)) (refilled (area z) (stateOf reel (suc (v .k))) first)
     draws =
         let t = stateOf reel (suc (v .k)) in
-        let ok : sizeOk (p .width) (p .height) ≡ true = ap₂ sizeOk (v .width-is) (v .height-is) ∙ inside .sized in
-        let room : enough (p .width * p .height) (x .pair) ≡ true = ap₂ enough (sym area-is) (v .pair-is) ∙ room-of z first (stateOf reel (v .k)) (v .exact) in
+        let room : enough (area z) (x .pair) ≡ true = ap (enough (area z)) (v .pair-is) ∙ room-of z first (stateOf reel (v .k)) (v .exact) in
         let was : front (area z) (x .pair) ≡ stateOf reel (v .k) = ap (front (area z)) (v .pair-is) ∙ front-of z first (stateOf reel (v .k)) (v .exact) in
-        sym (draw-one p b (x .pair) ok room (record-fits p b (v .within) (v .least-number) (omega (arith, v .most-number, v .frames-is))) (area z) area-is (To (next-one .from) (next-one .end)) t
-        (sym (ap₂ (λ (m n : ℕ). oneFrame Loose (sizeOf m n) b (p .place) (front (area z) (x .pair))) (v .width-is) (v .height-is) ∙ ap (oneFrame Loose z b (p .place)) was ∙ next-one .frame-is)))
+        sym (draw-one p b (x .pair) z (v .size-is) (inside .sized) room (record-fits p b (v .within) (v .least-number) (omega (arith, v .most-number, v .frames-is))) (area z) refl (To (next-one .from) (next-one .end)) t
+        (sym (ap (oneFrame Loose z b (p .place)) was ∙ next-one .frame-is)))
         ∙ ap (ran (To (next-one .from) (next-one .end))) (ap (refilled (area z) t) (v .pair-is) ∙ refilled-again z first (stateOf reel (v .k)) (v .exact) t)
 
     -- the record after that
@@ -239,8 +242,7 @@ module _ {b : List ℕ} (reel : LeadsBack b) where
           k = 1;
           some = omega arith;
           most = inside .some-frames;
-          width-is = v .width-is;
-          height-is = v .height-is;
+          size-is = v .size-is;
           frames-is = v .frames-is;
           second-is = v .second-is;
           least-number = omega (arith, number-is);
@@ -260,8 +262,7 @@ module _ {b : List ℕ} (reel : LeadsBack b) where
           k = suc (v .k);
           some = omega arith;
           most = omega (arith, h);
-          width-is = v .width-is;
-          height-is = v .height-is;
+          size-is = v .size-is;
           frames-is = v .frames-is;
           second-is = v .second-is;
           least-number = omega (arith, number-then);
@@ -288,8 +289,7 @@ module _ {b : List ℕ} (reel : LeadsBack b) where
           k = v .k;
           some = v .some;
           most = v .most;
-          width-is = v .width-is;
-          height-is = v .height-is;
+          size-is = v .size-is;
           frames-is = v .frames-is;
           second-is = v .second-is;
           least-number = v .least-number;
@@ -314,7 +314,7 @@ module _ {b : List ℕ} (reel : LeadsBack b) where
         shows : (o : PlayerOutcome) → tick p b r (x .pair) ≡ o → Standing first (playing (o .player) (o .left .memory .first)) → Standing first (ticked b r x)
         shows o e w = subst (λ (y : PlayerOutcome). Standing first (playing (y .player) (y .left .memory .first))) (sym e) w
 
-        by : TickIs p b r (x .pair) (tick p b r (x .pair)) (stepped (p .frames) (p .speed) (clockOf p) r .stands) → Goes r
+        by : TickIs p b r (x .pair) (tick p b r (x .pair)) (stepped (p .frames) (p .speed .0) (clockOf p) r .stands) → Goes r
         by (idle e c) = record { event = NOTHING; said = ap (λ (o : PlayerOutcome). o .left .said) e; stands = shows _ e v }
         by (back e c) = record { event = SET-BACK; said = ap (λ (o : PlayerOutcome). o .left .said) e; stands = shows _ e (back-standing r) }
         by (drawn last end t d e c) =
@@ -353,13 +353,12 @@ module _ {b : List ℕ} (reel : LeadsBack b) where
     placed-standing : (now : ℕ) → Standing first (playing (placed b now) (refilled (area z) (reel .one) first))
     placed-standing now =
         subst (λ (p : Player). Standing first (playing p (refilled (area z) (reel .one) first)))
-        (placed-at b now (z .width) (z .height) count (reel .size) (reel .speed) (reel .head) (reel .size) refl (Frame (reel .first) (reel .second)) (reel .frame-1))
+        (placed-at b now z count (reel .size) (reel .speed) (reel .head) (reel .size) refl (Frame (reel .first) (reel .second)) (reel .frame-1))
         (record {
           k = 1;
           some = omega arith;
           most = inside .some-frames;
-          width-is = refl;
-          height-is = refl;
+          size-is = ap (λ (f : Format). sizeOf f (z .width) (z .height)) (number-back (z .format));
           frames-is = refl;
           second-is = refl;
           least-number = omega arith;
@@ -376,7 +375,7 @@ module _ {b : List ℕ} (reel : LeadsBack b) where
 
 check-says : (b : List ℕ) (first second : State) (v : List ℕ) → checkReel b first second .said ≡ done v → v ≡ []
 unfolding checkReel
-check-says b first second v e = by (headOf b) e
+check-says b first second v e = by (headOf Both b) e
   where
     answered : (a : Answer) → told a ≡ done v → v ≡ []
     answered Done q = cc
@@ -384,9 +383,9 @@ check-says b first second v e = by (headOf b) e
 
     by : (x : Head) → afterHead b x first second .said ≡ done v → v ≡ []
     by (head.Fault r) q = answered (Refused r 0) q
-    by (head.Reel w h count size speed) q =
-        let x = playAll Loose count (sizeOf w h) (take size b) in
-        cond-holds (λ (o : Outcome). o .said ≡ done v → v ≡ []) (enough (w * h) first && enough (w * h) second) (checkedBy (w * h) x first second) (refuse ShortSlice 0 (lentPairs first second))
+    by (head.Reel z count size speed) q =
+        let x = playAll Loose count z (take size b) in
+        cond-holds (λ (o : Outcome). o .said ≡ done v → v ≡ []) (enough (area z) first && enough (area z) second) (checkedBy (area z) x first second) (refuse ShortSlice 0 (lentPairs first second))
         (answered (ringAnswer x)) (answered (Refused ShortSlice 0)) q
 
 module _ (b : List ℕ) (now : ℕ) (first second : State) (e : startPlayer b now first second .left .said ≡ done []) where

@@ -22,7 +22,7 @@ use Rattle.board_player.proofs.Laws.{tick-by, tick-drawn}
 
 -- the frame that comes next, drawn when its time came
 abbrev pub drawnThen : Player → Stands
-drawnThen p = stands (follows (p .number) (p .frames) % 2 ^ 64) ((p .last + p .speed) % 2 ^ 32)
+drawnThen p = stands (follows (p .number) (p .frames) % 2 ^ 64) ((p .last + p .speed .0) % 2 ^ 32)
 
 module _ (p : Player) (b : List ℕ) (r : ℕ) (lent : State) where
   -- o is what a tick leaves; clock: what stands by the clock alone
@@ -33,20 +33,20 @@ module _ (p : Player) (b : List ℕ) (r : ℕ) (lent : State) where
         → o ≡ plays (standing p (drawnThen p) (placeAfter p end)) (leaves (done (DRAWN ∷ [])) (lentPair t)) → clock ≡ drawnThen p → TickIs o clock
     refused : (e : Refusal) (place : ℕ) (t : State) → draw p b lent ≡ ran (Stopped e place) t → o ≡ keeps p e place (lentPair lent) → TickIs o clock
 
-  pub tick-is : TickIs (tick p b r lent) (stepped (p .frames) (p .speed) (clockOf p) r .stands)
-  tick-is = by (due (p .speed) (p .last) r) refl
+  pub tick-is : TickIs (tick p b r lent) (stepped (p .frames) (p .speed .0) (clockOf p) r .stands)
+  tick-is = by (due (p .speed .0) (p .last) r) refl
     where
-      by : (d : Due) → d ≡ due (p .speed) (p .last) r → TickIs (tick p b r lent) (stepped (p .frames) (p .speed) (clockOf p) r .stands)
-      by d e = go d (step-by (p .frames) (p .speed) (clockOf p) r d e)
+      by : (d : Due) → d ≡ due (p .speed .0) (p .last) r → TickIs (tick p b r lent) (stepped (p .frames) (p .speed .0) (clockOf p) r .stands)
+      by d e = go d (step-by (p .frames) (p .speed .0) (clockOf p) r d e)
         where
-          drawing : steppedBy (p .frames) (p .speed) (clockOf p) r Frame ≡ stepped (p .frames) (p .speed) (clockOf p) r → (x : Ran) (t : State) → draw p b lent ≡ ran x t
-              → TickIs (tick p b r lent) (stepped (p .frames) (p .speed) (clockOf p) r .stands)
+          drawing : steppedBy (p .frames) (p .speed .0) (clockOf p) r Frame ≡ stepped (p .frames) (p .speed .0) (clockOf p) r → (x : Ran) (t : State) → draw p b lent ≡ ran x t
+              → TickIs (tick p b r lent) (stepped (p .frames) (p .speed .0) (clockOf p) r .stands)
           drawing q (Stopped f place) t i =
-              refused f place t i (sym (tick-by p b r lent (steppedBy (p .frames) (p .speed) (clockOf p) r Frame) q Frame refl) ∙ ap (λ (y : Progress). drawnBy p (drawnThen p) lent (y .result) (y .after)) i)
-          drawing q (To last end) t i = drawn last end t i (sym (tick-drawn p b r lent (steppedBy (p .frames) (p .speed) (clockOf p) r Frame) q refl last end t (sym i))) (sym (ap (λ (t : Turn). t .stands) q))
+              refused f place t i (sym (tick-by p b r lent (steppedBy (p .frames) (p .speed .0) (clockOf p) r Frame) q Frame refl) ∙ ap (λ (y : Progress). drawnBy p (drawnThen p) lent (y .result) (y .after)) i)
+          drawing q (To last end) t i = drawn last end t i (sym (tick-drawn p b r lent (steppedBy (p .frames) (p .speed .0) (clockOf p) r Frame) q refl last end t (sym i))) (sym (ap (λ (t : Turn). t .stands) q))
 
-          go : (d : Due) → steppedBy (p .frames) (p .speed) (clockOf p) r d ≡ stepped (p .frames) (p .speed) (clockOf p) r
-              → TickIs (tick p b r lent) (stepped (p .frames) (p .speed) (clockOf p) r .stands)
-          go Nothing q = idle (sym (tick-by p b r lent (steppedBy (p .frames) (p .speed) (clockOf p) r Nothing) q Nothing refl)) (sym (ap (λ (t : Turn). t .stands) q))
-          go SetBack q = back (sym (tick-by p b r lent (steppedBy (p .frames) (p .speed) (clockOf p) r SetBack) q SetBack refl)) (sym (ap (λ (t : Turn). t .stands) q))
+          go : (d : Due) → steppedBy (p .frames) (p .speed .0) (clockOf p) r d ≡ stepped (p .frames) (p .speed .0) (clockOf p) r
+              → TickIs (tick p b r lent) (stepped (p .frames) (p .speed .0) (clockOf p) r .stands)
+          go Nothing q = idle (sym (tick-by p b r lent (steppedBy (p .frames) (p .speed .0) (clockOf p) r Nothing) q Nothing refl)) (sym (ap (λ (t : Turn). t .stands) q))
+          go SetBack q = back (sym (tick-by p b r lent (steppedBy (p .frames) (p .speed .0) (clockOf p) r SetBack) q SetBack refl)) (sym (ap (λ (t : Turn). t .stands) q))
           go Frame q = drawing q (draw p b lent .result) (draw p b lent .after) refl

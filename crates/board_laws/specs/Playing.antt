@@ -79,4 +79,4 @@ pub record PlayerShows (b : List ℕ) (first : State) (x : Playing) : Type 0 whe
 -- "the same as a live player shows when no tick is refused": a replay with the reel's speed and frames from the same reading, over any list of readings
 pub record ReplayIsLive (b : List ℕ) (now : ℕ) (x : Playing) : Type 0 where
   pub reel : LeadsBack b
-  pub words : (rs out : List ℕ) → replayed (reel .speed) (reel .count) now rs out ≡ fitted (stood b rs x) out
+  pub words : (rs out : List ℕ) → replayed (reel .speed .0) (reel .count) now rs out ≡ fitted (stood b rs x) out

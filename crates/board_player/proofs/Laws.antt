@@ -2,12 +2,15 @@
 use mathlib.Core.Path.{_≡_, refl, sym, ap, ap₂, _∙_}
 use mathlib.Core.List.{List, [], _∷_}
 use mathlib.Core.Bool.{true, false}
-use Prim.Native.Nat.{ℕ, suc, _*_, _≤_, _<_}
+use Prim.Native.Nat.{ℕ, suc, _≤_, _<_}
 use native.Mathlib.Omega.{arith}
 use lib.ListN.{length, take, take-append-drop}
 use borrow.Author.Tests.{le-leb, lt-leb}
+use Rattle.words.specs.Words.{require_else_then_}
 use Rattle.words.proofs.Tests.{cond-holds}
-use Rattle.format.specs.Limits.{sizeOk, sizeOf}
+use Rattle.format.specs.Limits.{sizeFits, area}
+use Rattle.format.specs.declared.Size.{Size}
+use Rattle.delay.specs.declared.Milliseconds.{Milliseconds}
 use Rattle.answer.specs.Answer.{done, refused, number}
 use Rattle.answer.specs.declared.Refusal.{Refusal}
 use Rattle.answer.specs.declared.Refusal.the-variants.{ShortSlice, BadSize, Cut}
@@ -17,6 +20,7 @@ use Rattle.chunks.specs.declared.Layout.the-variants.{Loose}
 use Rattle.chunks.specs.declared.Next.{Next}
 use Rattle.chunks.specs.Spans.{HEADER-BYTES, nextAt}
 use Rattle.reel_header.specs.Head.{headOf}
+use Rattle.reel_header.specs.declared.Takes.the-variants.{Both}
 use Rattle.reel_header.specs.declared.Head.{Head}
 use Rattle.reel_header.specs.declared.Head.the-variants as head
 use Rattle.reel_play.specs.Play.{Progress, ran, oneFrame, playAll}
@@ -30,7 +34,7 @@ use Rattle.board_clock.specs.declared.Due.the-variants.{Frame}
 use Rattle.board_clock.specs.declared.Turn.{Turn}
 use Rattle.board_clock.specs.Clock.{stepped}
 use Rattle.board_player.specs.declared.Player.{Player}
-use Rattle.board_player.specs.Player.{DRAWN, noPlayer, standing, placeAfter, plays}
+use Rattle.board_player.specs.Player.{DRAWN, noPlayer, playerSize, standing, placeAfter, plays}
 use Rattle.board_player.specs.Ticking.{recordOk, drawnInto, draw, drawnBy, tickBy, clockOf, tick}
 use Rattle.board_player.specs.Starting.{placedBy, placedAt, placed, showingBy, showingFirst, startedBy, startPlayer}
 
@@ -55,46 +59,53 @@ module _ (p : Player) (b : List ℕ) where
   record-fits h k l = rw (le-leb (p .place) (length b) h, le-leb 1 (p .number) k, le-leb (p .number) (suc (p .frames)) l)
 
   module _ (lent : State) where
-    pub draw-size : sizeOk (p .width) (p .height) ≡ false → ran (Stopped BadSize 0) lent ≡ draw p b lent
-    unfolding draw
-    draw-size e = rw e
+    -- the definition over a size that is known to be the record's
+    abbrev drawIn : Size → Progress
+    drawIn z =
+        require sizeFits z else ran (Stopped BadSize 0) lent then
+        require enough (area z) lent else ran (Stopped ShortSlice 0) lent then
+        require recordOk p b else ran (Stopped Cut 0) lent then
+        let r = oneFrame Loose z b (p .place) (front (area z) lent) in
+        drawnInto (area z) lent (r .result) (r .after)
 
-    module _ (ok : sizeOk (p .width) (p .height) ≡ true) where
-      pub draw-short : enough (p .width * p .height) lent ≡ false → ran (Stopped ShortSlice 0) lent ≡ draw p b lent
+    module _ (z : Size) (is : z ≡ playerSize p) where
+      draw-in : drawIn z ≡ draw p b lent
       unfolding draw
-      draw-short e = rw (ok, e)
+      draw-in = ap drawIn is
 
-      module _ (room : enough (p .width * p .height) lent ≡ true) where
-        pub draw-record : recordOk p b ≡ false → ran (Stopped Cut 0) lent ≡ draw p b lent
-        unfolding draw
-        draw-record e = rw (ok, room, e)
+      pub draw-size : sizeFits z ≡ false → ran (Stopped BadSize 0) lent ≡ draw p b lent
+      draw-size e = let d : ran (Stopped BadSize 0) lent ≡ drawIn z = rw e in d ∙ draw-in
 
-        draw-front : recordOk p b ≡ true → (r : Ran) (s : State) → ran r s ≡ oneFrame Loose (sizeOf (p .width) (p .height)) b (p .place) (front (p .width * p .height) lent)
-            → ran r (refilled (p .width * p .height) s lent) ≡ draw p b lent
-        unfolding draw
-        draw-front e r s f = into r s f ∙ ap (λ (x : Progress). drawnInto (p .width * p .height) lent (x .result) (x .after)) f ∙ rw (ok, room, e)
-          where
-            into : (r : Ran) (s : State) → ran r s ≡ oneFrame Loose (sizeOf (p .width) (p .height)) b (p .place) (front (p .width * p .height) lent)
-                → ran r (refilled (p .width * p .height) s lent) ≡ drawnInto (p .width * p .height) lent r s
-            into (To last end) s f = refl
-            into (Stopped r q) s f =
-                ap (λ (t : State). ran (Stopped r q) (refilled (p .width * p .height) t lent)) (one-kept Loose (sizeOf (p .width) (p .height)) b (p .place) (front (p .width * p .height) lent) r q s (sym f))
-                ∙ ap (ran (Stopped r q)) (front-refilled (p .width * p .height) lent)
+      module _ (ok : sizeFits z ≡ true) where
+        pub draw-short : enough (area z) lent ≡ false → ran (Stopped ShortSlice 0) lent ≡ draw p b lent
+        draw-short e = let d : ran (Stopped ShortSlice 0) lent ≡ drawIn z = rw (ok, e) in d ∙ draw-in
 
-        -- the frame came to r and left s at the front of the pair; m: the length of the range up to width * height
-        pub draw-one : recordOk p b ≡ true → (m : ℕ) → m ≡ p .width * p .height → (r : Ran) (s : State)
-            → ran r s ≡ oneFrame Loose (sizeOf (p .width) (p .height)) b (p .place) (front m lent) → ran r (refilled m s lent) ≡ draw p b lent
-        draw-one e m k r s f =
-            ap (λ (n : ℕ). ran r (refilled n s lent)) k
-            ∙ draw-front e r s (f ∙ ap (λ (n : ℕ). oneFrame Loose (sizeOf (p .width) (p .height)) b (p .place) (front n lent)) k)
+        module _ (room : enough (area z) lent ≡ true) where
+          pub draw-record : recordOk p b ≡ false → ran (Stopped Cut 0) lent ≡ draw p b lent
+          draw-record e = let d : ran (Stopped Cut 0) lent ≡ drawIn z = rw (ok, room, e) in d ∙ draw-in
+
+          -- the frame came to r and left s at the front of the pair; m: the length of the range up to the area
+          pub draw-one : recordOk p b ≡ true → (m : ℕ) → m ≡ area z → (r : Ran) (s : State) → ran r s ≡ oneFrame Loose z b (p .place) (front m lent)
+              → ran r (refilled m s lent) ≡ draw p b lent
+          draw-one e m k r s f =
+              let g = f ∙ ap (λ (n : ℕ). oneFrame Loose z b (p .place) (front n lent)) k in
+              let x = oneFrame Loose z b (p .place) (front (area z) lent) in
+              let d : drawnInto (area z) lent (x .result) (x .after) ≡ drawIn z = rw (ok, room, e) in
+              ap (λ (n : ℕ). ran r (refilled n s lent)) k ∙ into r s g ∙ ap (λ (y : Progress). drawnInto (area z) lent (y .result) (y .after)) g ∙ d ∙ draw-in
+            where
+              into : (r : Ran) (s : State) → ran r s ≡ oneFrame Loose z b (p .place) (front (area z) lent) → ran r (refilled (area z) s lent) ≡ drawnInto (area z) lent r s
+              into (To last end) s f = refl
+              into (Stopped r q) s f =
+                  ap (λ (t : State). ran (Stopped r q) (refilled (area z) t lent)) (one-kept Loose z b (p .place) (front (area z) lent) r q s (sym f))
+                  ∙ ap (ran (Stopped r q)) (front-refilled (area z) lent)
 
     -- a refused draw leaves the pair as it was
     pub draw-kept : (e : Refusal) (place : ℕ) (t : State) → draw p b lent ≡ ran (Stopped e place) t → t ≡ lent
     unfolding draw
     draw-kept e place t q =
-        let n = p .width * p .height in
-        let r = oneFrame Loose (sizeOf (p .width) (p .height)) b (p .place) (front n lent) in
-        cond-holds Keeps (sizeOk (p .width) (p .height)) _ _
+        let n = area (playerSize p) in
+        let r = oneFrame Loose (playerSize p) b (p .place) (front n lent) in
+        cond-holds Keeps (sizeFits (playerSize p)) _ _
         (cond-holds Keeps (enough n lent) _ _ (cond-holds Keeps (recordOk p b) _ _ (into n (r .result) (r .after)) left) left)
         left q
       where
@@ -110,7 +121,7 @@ module _ (p : Player) (b : List ℕ) where
 
 -- tick
 
-module _ (p : Player) (b : List ℕ) (reading : ℕ) (lent : State) (t : Turn) (is : t ≡ stepped (p .frames) (p .speed) (clockOf p) reading) where
+module _ (p : Player) (b : List ℕ) (reading : ℕ) (lent : State) (t : Turn) (is : t ≡ stepped (p .frames) (p .speed .0) (clockOf p) reading) where
   pub tick-by : (d : Due) → t .due ≡ d → tickBy p b lent d (t .stands) ≡ tick p b reading lent
   unfolding tick
   tick-by d e = ap (λ (x : Due). tickBy p b lent x (t .stands)) (sym e) ∙ ap (λ (x : Turn). tickBy p b lent (x .due) (x .stands)) is
@@ -128,25 +139,25 @@ module _ (p : Player) (b : List ℕ) (reading : ℕ) (lent : State) (t : Turn) (
 -- placed
 
 module _ (b : List ℕ) (reading : ℕ) where
-  pub placed-fault : (e : Refusal) → headOf b ≡ head.Fault e → noPlayer ≡ placed b reading
+  pub placed-fault : (e : Refusal) → headOf Both b ≡ head.Fault e → noPlayer ≡ placed b reading
   unfolding placed
   placed-fault e q = sym (ap (placedAt b reading) q)
 
   -- n: the length of the range up to size
-  pub placed-at : (w h count size speed : ℕ) → headOf b ≡ head.Reel w h count size speed → (n : ℕ) → n ≡ size → (x : Next) → nextAt Loose (take n b) HEADER-BYTES ≡ x
-      → placedBy w h count speed reading x ≡ placed b reading
+  pub placed-at : (z : Size) (count size : ℕ) (speed : Milliseconds) → headOf Both b ≡ head.Reel z count size speed → (n : ℕ) → n ≡ size → (x : Next) → nextAt Loose (take n b) HEADER-BYTES ≡ x
+      → placedBy z count speed reading x ≡ placed b reading
   unfolding placed
-  placed-at w h count size speed q n e x r =
-      ap (placedBy w h count speed reading) (sym r) ∙ ap (λ (k : ℕ). placedBy w h count speed reading (nextAt Loose (take k b) HEADER-BYTES)) e ∙ sym (ap (placedAt b reading) q)
+  placed-at z count size speed q n e x r =
+      ap (placedBy z count speed reading) (sym r) ∙ ap (λ (k : ℕ). placedBy z count speed reading (nextAt Loose (take k b) HEADER-BYTES)) e ∙ sym (ap (placedAt b reading) q)
 
 -- startPlayer
 
 -- after an accepted check the first pair shows frame 1
-shows-first : (b : List ℕ) (first : State) (w h count size speed : ℕ) → headOf b ≡ head.Reel w h count size speed
-    → refilled (w * h) (playAll Loose count (sizeOf w h) (take size b) .one) first ≡ showingFirst b first
+shows-first : (b : List ℕ) (first : State) (z : Size) (count size : ℕ) (speed : Milliseconds) → headOf Both b ≡ head.Reel z count size speed
+    → refilled (area z) (playAll Loose count z (take size b) .one) first ≡ showingFirst b first
 unfolding showingFirst
-shows-first b first w h count size speed q =
-    ap (λ (s : State). refilled (w * h) s first) (all-first Loose count (sizeOf w h) (take size b)) ∙ sym (ap (λ (x : Head). showingBy b x first) q)
+shows-first b first z count size speed q =
+    ap (λ (s : State). refilled (area z) s first) (all-first Loose count z (take size b)) ∙ sym (ap (λ (x : Head). showingBy b x first) q)
 
 module _ (b : List ℕ) (reading : ℕ) (first second : State) (s t : State) where
   pub start-refused : (n place : ℕ) → leaves (refused n place) (lentPairs s t) ≡ checkReel b first second → plays noPlayer (leaves (refused n place) (lentPairs s t)) ≡ startPlayer b reading first second
@@ -158,6 +169,6 @@ module _ (b : List ℕ) (reading : ℕ) (first second : State) (s t : State) whe
   unfolding startPlayer
   start-done e =
       let c = check-passed b first second (ap (λ (o : Outcome). o .said) (sym e)) in
-      let f = ap (λ (o : Outcome). o .memory .first) (e ∙ c .pairs) ∙ shows-first b first (c .width) (c .height) (c .count) (c .size) (c .speed) (c .header) in
+      let f = ap (λ (o : Outcome). o .memory .first) (e ∙ c .pairs) ∙ shows-first b first (c .picture) (c .count) (c .size) (c .speed) (c .header) in
       ap (λ (x : State). plays (placed b reading) (leaves (done []) (lentPairs x t))) f
       ∙ ap (λ (o : Outcome). startedBy b reading first o (o .said)) e

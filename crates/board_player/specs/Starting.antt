@@ -1,8 +1,10 @@
 -- Starting a player (document 02, Req 01): the answer, the record, and what both pairs hold afterwards.
-use Prim.Native.Nat.{ℕ, _*_}
+use Prim.Native.Nat.{ℕ}
 use mathlib.Core.List.{List, []}
 use lib.ListN.{take}
-use Rattle.format.specs.Limits.{sizeOf}
+use Rattle.format.specs.Limits.{area}
+use Rattle.format.specs.declared.Size.{Size}
+use Rattle.delay.specs.declared.Milliseconds.{Milliseconds}
 use Rattle.answer.specs.Answer.{Said, done, refused}
 use Rattle.state.specs.State.{State, blank, refilled}
 use Rattle.state.specs.Outcome.{Outcome, lentPairs, leaves}
@@ -11,35 +13,35 @@ use Rattle.chunks.specs.declared.Next.{Next}
 use Rattle.chunks.specs.declared.Next.the-variants as next
 use Rattle.chunks.specs.Spans.{HEADER-BYTES, nextAt}
 use Rattle.reel_header.specs.Head.{headOf}
+use Rattle.reel_header.specs.declared.Takes.the-variants.{Both}
 use Rattle.reel_header.specs.declared.Head.{Head}
 use Rattle.reel_header.specs.declared.Head.the-variants as head
 use Rattle.reel_play.specs.Play.{oneFrame}
 use Rattle.reel_check.specs.Check.{checkReel}
 use Rattle.board_player.specs.declared.Player.{Player}
-use Rattle.board_player.specs.Player.{noPlayer, PlayerOutcome, plays}
+use Rattle.board_player.specs.Player.{noPlayer, playerAt, PlayerOutcome, plays}
 
 -- the record of a reel whose frame 1 was drawn at reading; there is none where the header or frame 1's is refused
-abbrev pub placedBy : ℕ → ℕ → ℕ → ℕ → ℕ → Next → Player
-placedBy w h count speed reading (next.Fault e place) = noPlayer
-placedBy w h count speed reading (next.Frame from end) =
-    record { width = w; height = h; frames = count; number = 1; place = end; second = end; speed = speed; last = reading }
+abbrev pub placedBy : Size → ℕ → Milliseconds → ℕ → Next → Player
+placedBy z count speed reading (next.Fault e place) = noPlayer
+placedBy z count speed reading (next.Frame from end) = playerAt z count end speed reading
 
 abbrev pub placedAt : List ℕ → ℕ → Head → Player
 placedAt b reading (head.Fault e) = noPlayer
-placedAt b reading (head.Reel w h count size speed) = placedBy w h count speed reading (nextAt Loose (take size b) HEADER-BYTES)
+placedAt b reading (head.Reel z count size speed) = placedBy z count speed reading (nextAt Loose (take size b) HEADER-BYTES)
 
 unfoldable pub placed : List ℕ → ℕ → Player
 unfolding headOf nextAt
-placed b reading = placedAt b reading (headOf b)
+placed b reading = placedAt b reading (headOf Both b)
 
 -- a lent pair that shows frame 1, which "is read against blank"
 abbrev pub showingBy : List ℕ → Head → State → State
 showingBy b (head.Fault e) lent = lent
-showingBy b (head.Reel w h count size speed) lent = refilled (w * h) (oneFrame Loose (sizeOf w h) (take size b) HEADER-BYTES (blank (w * h)) .after) lent
+showingBy b (head.Reel z count size speed) lent = refilled (area z) (oneFrame Loose z (take size b) HEADER-BYTES (blank (area z)) .after) lent
 
 unfoldable pub showingFirst : List ℕ → State → State
 unfolding headOf oneFrame
-showingFirst b lent = showingBy b (headOf b) lent
+showingFirst b lent = showingBy b (headOf Both b) lent
 
 -- "Starting makes the whole-reel check in its two pairs", whose refusals it has, "then the first shows frame 1, drawn at the reading given"
 abbrev pub startedBy : List ℕ → ℕ → State → Outcome → Said → PlayerOutcome

@@ -1,11 +1,11 @@
 -- A tick of a player (document 02, Req 01): the answer, the record, and what the pair that shows holds afterwards.
-use Prim.Native.Nat.{ℕ, suc, _*_}
+use Prim.Native.Nat.{ℕ, suc}
 use mathlib.Core.List.{List, [], _∷_}
 use mathlib.Core.Bool.{Bool, _&&_}
 use lib.Dec.{leb}
 use lib.ListN.{length}
 use Rattle.words.specs.Words.{require_else_then_}
-use Rattle.format.specs.Limits.{sizeOk, sizeOf}
+use Rattle.format.specs.Limits.{sizeFits, area}
 use Rattle.answer.specs.Answer.{done}
 use Rattle.answer.specs.declared.Refusal.the-variants.{ShortSlice, BadSize, Cut}
 use Rattle.state.specs.State.{State, enough, front, refilled}
@@ -19,7 +19,7 @@ use Rattle.board_clock.specs.declared.Due.the-variants.{Nothing, Frame, SetBack
 use Rattle.board_clock.specs.declared.Stands.{Stands}
 use Rattle.board_clock.specs.Clock.{stands, stepped}
 use Rattle.board_player.specs.declared.Player.{Player}
-use Rattle.board_player.specs.Player.{NOTHING, DRAWN, SET-BACK, standing, placeAfter, PlayerOutcome, plays, keeps}
+use Rattle.board_player.specs.Player.{NOTHING, DRAWN, SET-BACK, playerSize, standing, placeAfter, PlayerOutcome, plays, keeps}
 
 -- "if the record's place .. lies past the bytes or its frame number outside 1 to frames + 1"
 abbrev pub recordOk : Player → List ℕ → Bool
@@ -34,11 +34,11 @@ drawnInto n lent (To last next) s = ran (To last next) (refilled n s lent)
 unfoldable pub draw : Player → List ℕ → State → Progress
 unfolding oneFrame
 draw p bytes lent =
-    require sizeOk (p .width) (p .height) else ran (Stopped BadSize 0) lent then
-    require enough (p .width * p .height) lent else ran (Stopped ShortSlice 0) lent then
+    require sizeFits (playerSize p) else ran (Stopped BadSize 0) lent then
+    require enough (area (playerSize p)) lent else ran (Stopped ShortSlice 0) lent then
     require recordOk p bytes else ran (Stopped Cut 0) lent then
-    let r = oneFrame Loose (sizeOf (p .width) (p .height)) bytes (p .place) (front (p .width * p .height) lent) in
-    drawnInto (p .width * p .height) lent (r .result) (r .after)
+    let r = oneFrame Loose (playerSize p) bytes (p .place) (front (area (playerSize p)) lent) in
+    drawnInto (area (playerSize p)) lent (r .result) (r .after)
 
 -- a tick that draws; s: what stands then
 abbrev pub drawnBy : Player → Stands → State → Ran → State → PlayerOutcome
@@ -59,5 +59,5 @@ clockOf p = stands (p .number) (p .last)
 unfoldable pub tick : Player → List ℕ → ℕ → State → PlayerOutcome
 unfolding draw stepped
 tick p bytes reading lent =
-    let t = stepped (p .frames) (p .speed) (clockOf p) reading in
+    let t = stepped (p .frames) (p .speed .0) (clockOf p) reading in
     tickBy p bytes lent (t .due) (t .stands)

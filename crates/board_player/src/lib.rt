@@ -4,7 +4,7 @@ ghost use Rattle.answer.specs.Answer.{told};
 ghost use Rattle.state.specs.State.{state};
 ghost use Rattle.state.specs.Outcome.{lentPair, lentPairs, leaves};
 ghost use Rattle.reel_play.specs.Play.{ran};
-ghost use Rattle.board_player.specs.Player.{toldTick, noPlayer, plays, standing, placeAfter};
+ghost use Rattle.board_player.specs.Player.{toldTick, noPlayer, playerAt, playerSize, plays, standing, placeAfter};
 ghost use Rattle.board_player.specs.Ticking.{draw, tick};
 ghost use Rattle.board_player.specs.Starting.{placed, startPlayer};
 use answer::Answer;
@@ -14,13 +14,15 @@ use board_clock::Stands;
 use chunks::HEADER_BYTES;
 use chunks::Layout;
 use chunks::Next;
+use delay::Milliseconds;
 use format::PALETTE_BYTES;
 use format::Size;
 use reel_header::Head;
+use reel_header::Takes;
 use reel_play::Ran;
 
 // What a player carries from tick to tick: the reel's size and frames, the number of the frame that stands, the place where the next one is looked for,
-// where frame 1 ends, the speed in milliseconds and the last draw time. A caller may hand in any values.
+// where frame 1 ends, the speed, the last draw time, and the format as a number (format::format_from). A caller may hand in any values.
 #[repr(C)]
 pub struct Player {
     pub width: usize,
@@ -29,8 +31,9 @@ pub struct Player {
     pub number: usize,
     pub place: usize,
     pub second: usize,
-    pub speed: u32,
+    pub speed: Milliseconds,
     pub last: u32,
+    pub format: u32,
 }
 
 // What a tick answers: nothing was due, a frame was drawn, the clock was set back, or a refusal with its place.
@@ -57,6 +60,7 @@ pub struct Started {
 fn standing_at(player: Player, stands: Stands, place: usize) -> Player
     ensures { λ r. ⌜ r ≡ standing player stands place ⌝ }
 {
+    let speed = player.speed;
     Player {
         width: player.width,
         height: player.height,
@@ -64,8 +68,9 @@ fn standing_at(player: Player, stands: Stands, place: usize) -> Player
         number: stands.number,
         place,
         second: player.second,
-        speed: player.speed,
+        speed,
         last: stands.last,
+        format: player.format,
     }
 }
 
@@ -79,16 +84,26 @@ fn place_after(player: Player, end: usize) -> usize
     end
 }
 
+// The size of a player's pictures, and the format of its frames.
+fn size_of(player: Player) -> Size
+    ensures { λ r. ⌜ r ≡ playerSize player ⌝ }
+{
+    Size {
+        width: player.width,
+        height: player.height,
+        format: format::format_from(player.format),
+    }
+}
+
 // Draws the frame that comes next.
 fn draw_next(player: Player, bytes: &[u8], picture: &mut [u8], palette: &mut [u8]) -> Ran
     ensures { λ r. ⌜ ran r (state (now (picture .exit)) (now (palette .exit))) ≡ draw player (now (bytes .entry)) (state (now (picture .entry)) (now (palette .entry))) ⌝ }
 {
-    let width = player.width;
-    let height = player.height;
-    if !format::size_ok(width, height) {
+    let size = size_of(player);
+    if !format::size_fits(size) {
         return Ran::Stopped(Refusal::BadSize, 0);
     }
-    let n = width * height;
+    let n = size.width * size.height;
     if !state::holds(picture.len(), palette.len(), n) {
         return Ran::Stopped(Refusal::ShortSlice, 0);
     }
@@ -108,7 +123,7 @@ fn draw_next(player: Player, bytes: &[u8], picture: &mut [u8], palette: &mut [u8
         bytes,
         Layout::Loose,
         place,
-        Size { width, height },
+        size,
     )
 }
 
@@ -123,13 +138,14 @@ pub fn step(
     ensures { λ r. ⌜ plays (r .player) (leaves (toldTick (r .ticked)) (lentPair (state (now (picture .exit)) (now (palette .exit)))))
         ≡ tick player (now (bytes .entry)) reading (state (now (picture .entry)) (now (palette .entry))) ⌝ }
 {
+    let speed = player.speed;
     let turn = board_clock::step(
         Stands {
             number: player.number,
             last: player.last,
         },
         player.frames,
-        player.speed,
+        speed.0,
         reading,
     );
     let due = turn.due;
@@ -185,8 +201,27 @@ fn no_player() -> Player
         number: 0,
         place: 0,
         second: 0,
-        speed: 0,
+        speed: Milliseconds(0),
         last: 0,
+        format: 0,
+    }
+}
+
+// A player at frame 1, which ends at offset end.
+fn player_at(picture: Size, frames: usize, end: usize, speed: Milliseconds, reading: u32) -> Player
+    ensures { λ r. ⌜ r ≡ playerAt picture frames end speed reading ⌝ }
+{
+    let format = picture.format;
+    Player {
+        width: picture.width,
+        height: picture.height,
+        frames,
+        number: 1,
+        place: end,
+        second: end,
+        speed,
+        last: reading,
+        format: format::format_number(format),
     }
 }
 
@@ -194,26 +229,16 @@ fn no_player() -> Player
 fn place_player(bytes: &[u8], reading: u32) -> Player
     ensures { λ r. ⌜ r ≡ placed (now (bytes .entry)) reading ⌝ }
 {
-    match reel_header::head_of(bytes) {
+    match reel_header::head_of(Takes::Both, bytes) {
         Head::Fault(_) => no_player(),
         Head::Reel {
-            width,
-            height,
+            picture,
             frames,
             size,
             speed,
         } => match chunks::step_at(&bytes[0..size], Layout::Loose, HEADER_BYTES) {
             Next::Fault(_, _) => no_player(),
-            Next::Frame { from: _, end } => Player {
-                width,
-                height,
-                frames,
-                number: 1,
-                place: end,
-                second: end,
-                speed,
-                last: reading,
-            },
+            Next::Frame { from: _, end } => player_at(picture, frames, end, speed, reading),
         },
     }
 }

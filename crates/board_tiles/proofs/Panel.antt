@@ -14,7 +14,7 @@ use lib.Seq.{take-at, drop-at, getD-take, drop-cons}
 use Rattle.words.specs.Writes.{put}
 use Rattle.words.proofs.Tests.{by-test, both-true}
 use Rattle.format.specs.Limits.{sizeOk, Sized}
-use Rattle.format.proofs.Laws.{size-in}
+use Rattle.format.proofs.Laws.{size-ok-in}
 use Rattle.answer.specs.Answer.{done}
 use Rattle.state.specs.Outcome.{Outcome, lentBytes, leaves}
 use Rattle.state.proofs.Laws.{passed}
@@ -324,7 +324,7 @@ module _ (w h : ℕ) (p q words : List ℕ) (n : ℕ) (said : tileMap w h p q wo
       let b = passed (λ (o : Outcome). o .said) (leb (w * h) (length p) && leb (w * h) (length q)) (a .1) said refl in
       let c = both-true (leb (w * h) (length p)) (leb (w * h) (length q)) (b .0) in
       let d = passed (λ (o : Outcome). o .said) (leb (length (tileWords w h p q)) (length words)) (b .1) said refl in
-      record { size = size-in w h (a .0); previous-long = leb-true (w * h) (length p) (c .0); next-long = leb-true (w * h) (length q) (c .1); left = sym (d .1) }
+      record { size = size-ok-in w h (a .0); previous-long = leb-true (w * h) (length p) (c .0); next-long = leb-true (w * h) (length q) (c .1); left = sym (d .1) }
 
   pub map-holds : MapHolds w h p q words (wordsAfter w h p q words)
   map-holds =

@@ -1,6 +1,8 @@
 // The entry points for C (include/flic.h), and nothing else: numbers, slices and plain structs. A slice is a pointer and then a length.
 ghost use mathlib.Core.Path.{_≡_};
-ghost use Rattle.format.specs.Limits.{sizeOf};
+ghost use Rattle.format.specs.Limits.{sizeOf, formatFrom};
+ghost use Rattle.delay.specs.Delay.{milliseconds, inJiffies};
+ghost use Rattle.reel_header.specs.declared.Takes.the-variants.{Both};
 ghost use Rattle.answer.specs.Answer.{told, toldWritten};
 ghost use Rattle.state.specs.State.{state};
 ghost use Rattle.state.specs.Outcome.{lentBytes, lentPair, lentBytesPair, lentPairs, lentBytesPairs};
@@ -11,7 +13,7 @@ ghost use Rattle.house_frame.specs.Writing.{writeFrame};
 ghost use Rattle.house_rewrite.specs.Rewriting.{rewriteFrame};
 ghost use Rattle.reel_header.specs.Head.{headOf};
 ghost use Rattle.reel_check.specs.Check.{checkReel};
-ghost use Rattle.reel_build.specs.Building.{openReel, addFrame};
+ghost use Rattle.reel_build.specs.Building.{openReel, openFli, addFrame};
 ghost use Rattle.reel_close.specs.Closing.{closeReel};
 ghost use Rattle.reel_trailer.specs.Trailer.{checkTrailer, writeTrailer};
 ghost use Rattle.list_chunks.specs.Listing.{list};
@@ -21,16 +23,20 @@ ghost use Rattle.board_player.specs.Ticking.{tick};
 ghost use Rattle.board_player.specs.Starting.{startPlayer};
 ghost use Rattle.board_tiles.specs.Marks.{tileRow};
 ghost use Rattle.board_tiles.specs.Mapping.{tileMap};
-ghost use Rattle.capi.specs.Capi.{headerFor, spanFor, HeldCost, lengthOf, eventOf, nothing, reelFrom, recordFor, recordOf, Told, Held, HeldLength, HeldReel, HeldPlayer, HeldTick};
+ghost use Rattle.capi.specs.Capi.{headerFor, spanFor, HeldCost, lengthOf, eventOf, nothing, reelFrom, recordFor, recordOf, Told, Held, HeldLength, HeldReel, HeldPlayer, HeldTick, tooLong, millisecondsFor, jiffiesFor};
 use board_player::Player;
 use board_player::Ticked;
 use board_tiles::TileRow;
 use chunks::Next;
+use delay::Converted;
+use delay::Jiffies;
+use delay::Milliseconds;
 use format::Size;
 use house_rows::RowCost;
 use reel_build::Built;
 use reel_build::Reel;
 use reel_header::Head;
+use reel_header::Takes;
 
 // Number 0: done. Otherwise the refusal's number and place.
 #[repr(C)]
@@ -39,7 +45,7 @@ pub struct Answered {
     pub place: u64,
 }
 
-// A reel from call to call. Closed: any number but 0.
+// A reel from call to call. Closed: any number but 0; format: 0 FLC, any other number FLI.
 #[repr(C)]
 pub struct Record {
     pub width: u64,
@@ -47,6 +53,7 @@ pub struct Record {
     pub frames: u64,
     pub end: u64,
     pub closed: u32,
+    pub format: u32,
 }
 
 // An answer with the reel as it is after the call: where refused, as it was handed in.
@@ -65,7 +72,7 @@ pub struct Delivered {
     pub length: u64,
 }
 
-// A reel's header: all fields are 0 where refused.
+// A reel's header, its speed in milliseconds: all fields are 0 where refused.
 #[repr(C)]
 pub struct ReelHeader {
     pub number: u32,
@@ -75,6 +82,7 @@ pub struct ReelHeader {
     pub frames: u64,
     pub size: u64,
     pub speed: u32,
+    pub format: u32,
 }
 
 // Where a frame begins and ends: both 0 where refused.
@@ -84,6 +92,14 @@ pub struct FrameSpan {
     pub place: u64,
     pub from: u64,
     pub end: u64,
+}
+
+// A delay in the other unit: 0 where refused.
+#[repr(C)]
+pub struct DelayAnswer {
+    pub number: u32,
+    pub place: u64,
+    pub delay: u32,
 }
 
 // What a row's least packets cost: their bytes, and the turns of the search for them; both 0 where refused.
@@ -143,25 +159,38 @@ fn written_for_c(a: answer::Written) -> Delivered
     }
 }
 
+fn size_from_c(format: u32, width: usize, height: usize) -> Size
+    ensures { λ r. ⌜ r ≡ sizeOf (formatFrom format) width height ⌝ }
+{
+    Size {
+        width,
+        height,
+        format: format::format_from(format),
+    }
+}
+
 // Reads one frame against the picture and palette that show.
 #[no_mangle]
 pub extern "C" fn flic_read_frame(
     bytes: &[u8],
+    format: u32,
     width: usize,
     height: usize,
     picture: &mut [u8],
     palette: &mut [u8],
 ) -> Answered
     ensures { λ r. ⌜ Held (r .number) (r .place) (lentPair (state (now (picture .exit)) (now (palette .exit))))
-        (readFrame (now (bytes .entry)) (sizeOf width height) (state (now (picture .entry)) (now (palette .entry)))) ⌝ }
+        (readFrame (now (bytes .entry)) (sizeOf (formatFrom format) width height) (state (now (picture .entry)) (now (palette .entry)))) ⌝ }
 {
-    let a = read_frame::read_frame(bytes, Size { width, height }, picture, palette);
+    let size = size_from_c(format, width, height);
+    let a = read_frame::read_frame(bytes, size, picture, palette);
     answer_for_c(a)
 }
 
 // Writes the frame that leads from the previous picture and palette to the next.
 #[no_mangle]
 pub extern "C" fn flic_write_frame(
+    format: u32,
     width: usize,
     height: usize,
     previous_picture: &[u8],
@@ -171,10 +200,11 @@ pub extern "C" fn flic_write_frame(
     out: &mut [u8],
 ) -> Delivered
     ensures { λ r. ⌜ HeldLength (r .number) (r .place) (r .length) (lentBytes (now (out .exit)))
-        (writeFrame (sizeOf width height) (state (now («previous_picture» .entry)) (now («previous_palette» .entry))) (state (now («next_picture» .entry)) (now («next_palette» .entry))) (now (out .entry))) ⌝ }
+        (writeFrame (sizeOf (formatFrom format) width height) (state (now («previous_picture» .entry)) (now («previous_palette» .entry))) (state (now («next_picture» .entry)) (now («next_palette» .entry))) (now (out .entry))) ⌝ }
 {
+    let size = size_from_c(format, width, height);
     let a = house_frame::write_frame(
-        Size { width, height },
+        size,
         previous_picture,
         previous_palette,
         next_picture,
@@ -209,6 +239,7 @@ pub extern "C" fn flic_search_row(row: &[u8]) -> RowFigures
 #[no_mangle]
 pub extern "C" fn flic_rewrite_frame(
     bytes: &[u8],
+    format: u32,
     width: usize,
     height: usize,
     previous_picture: &[u8],
@@ -218,11 +249,12 @@ pub extern "C" fn flic_rewrite_frame(
     out: &mut [u8],
 ) -> Delivered
     ensures { λ r. ⌜ HeldLength (r .number) (r .place) (r .length) (lentBytesPair (now (out .exit)) (state (now («work_picture» .exit)) (now («work_palette» .exit))))
-        (rewriteFrame (now (bytes .entry)) (sizeOf width height) (state (now («previous_picture» .entry)) (now («previous_palette» .entry))) (state (now («work_picture» .entry)) (now («work_palette» .entry))) (now (out .entry))) ⌝ }
+        (rewriteFrame (now (bytes .entry)) (sizeOf (formatFrom format) width height) (state (now («previous_picture» .entry)) (now («previous_palette» .entry))) (state (now («work_picture» .entry)) (now («work_palette» .entry))) (now (out .entry))) ⌝ }
 {
+    let size = size_from_c(format, width, height);
     let a = house_rewrite::rewrite_frame(
         bytes,
-        Size { width, height },
+        size,
         previous_picture,
         previous_palette,
         work_picture,
@@ -236,10 +268,7 @@ fn reel_from_c(r: Record) -> Reel
     ensures { λ x. ⌜ x ≡ reelFrom r ⌝ }
 {
     Reel {
-        size: Size {
-            width: r.width as usize,
-            height: r.height as usize,
-        },
+        size: size_from_c(r.format, r.width as usize, r.height as usize),
         frames: r.frames as usize,
         end: r.end as usize,
         closed: r.closed != 0,
@@ -254,12 +283,14 @@ fn record_for_c(r: Reel) -> Record
         closed = 1;
     }
     let size = r.size;
+    let format = size.format;
     Record {
         width: size.width as u64,
         height: size.height as u64,
         frames: r.frames as u64,
         end: r.end as u64,
         closed,
+        format: format::format_number(format),
     }
 }
 
@@ -306,7 +337,21 @@ pub extern "C" fn flic_check_reel(
     answer_for_c(a)
 }
 
-// Opens a reel at the front of the lent bytes.
+// No record.
+fn no_record() -> Record
+    ensures { λ r. ⌜ r ≡ nothing ⌝ }
+{
+    Record {
+        width: 0,
+        height: 0,
+        frames: 0,
+        end: 0,
+        closed: 0,
+        format: 0,
+    }
+}
+
+// Opens an FLC at the front of the lent bytes.
 #[no_mangle]
 pub extern "C" fn flic_open_reel(
     width: usize,
@@ -314,19 +359,24 @@ pub extern "C" fn flic_open_reel(
     speed: u32,
     bytes: &mut [u8],
 ) -> Recorded
-    ensures { λ r. ⌜ HeldReel (r .number) (r .place) (r .reel) nothing (lentBytes (now (bytes .exit))) (openReel (sizeOf width height) speed (now (bytes .entry))) ⌝ }
+    ensures { λ r. ⌜ HeldReel (r .number) (r .place) (r .reel) nothing (lentBytes (now (bytes .exit))) (openReel width height (milliseconds speed) (now (bytes .entry))) ⌝ }
 {
-    let a = reel_build::open_reel(Size { width, height }, speed, bytes);
-    built_for_c(
-        a,
-        Record {
-            width: 0,
-            height: 0,
-            frames: 0,
-            end: 0,
-            closed: 0,
-        },
-    )
+    let a = reel_build::open_reel(width, height, Milliseconds(speed), bytes);
+    built_for_c(a, no_record())
+}
+
+// Opens an FLI at the front of the lent bytes; its delay is in jiffies.
+#[no_mangle]
+pub extern "C" fn flic_open_fli(
+    width: usize,
+    height: usize,
+    jiffies: u32,
+    bytes: &mut [u8],
+) -> Recorded
+    ensures { λ r. ⌜ HeldReel (r .number) (r .place) (r .reel) nothing (lentBytes (now (bytes .exit))) (openFli width height jiffies (now (bytes .entry))) ⌝ }
+{
+    let a = reel_build::open_fli(width, height, jiffies, bytes);
+    built_for_c(a, no_record())
 }
 
 // Adds the frame that leads from the showing picture and palette to the next.
@@ -407,9 +457,9 @@ pub extern "C" fn flic_list(bytes: &[u8], out: &mut [u8]) -> Delivered
 // Reads the header of a reel.
 #[no_mangle]
 pub extern "C" fn flic_read_header(bytes: &[u8]) -> ReelHeader
-    ensures { λ r. ⌜ r ≡ headerFor (headOf (now (bytes .entry))) ⌝ }
+    ensures { λ r. ⌜ r ≡ headerFor (headOf Both (now (bytes .entry))) ⌝ }
 {
-    match reel_header::head_of(bytes) {
+    match reel_header::head_of(Takes::Both, bytes) {
         Head::Fault(e) => ReelHeader {
             number: answer::number_of(e),
             place: 0,
@@ -418,22 +468,26 @@ pub extern "C" fn flic_read_header(bytes: &[u8]) -> ReelHeader
             frames: 0,
             size: 0,
             speed: 0,
+            format: 0,
         },
         Head::Reel {
-            width,
-            height,
+            picture,
             frames,
             size,
             speed,
-        } => ReelHeader {
-            number: 0,
-            place: 0,
-            width: width as u64,
-            height: height as u64,
-            frames: frames as u64,
-            size: size as u64,
-            speed,
-        },
+        } => {
+            let format = picture.format;
+            ReelHeader {
+                number: 0,
+                place: 0,
+                width: picture.width as u64,
+                height: picture.height as u64,
+                frames: frames as u64,
+                size: size as u64,
+                speed: speed.0,
+                format: format::format_number(format),
+            }
+        }
     }
 }
 
@@ -454,6 +508,48 @@ pub extern "C" fn flic_next_frame(bytes: &[u8], at: usize) -> FrameSpan
             place: 0,
             from: from as u64,
             end: end as u64,
+        },
+    }
+}
+
+// The refusal of a delay that two bytes don't hold.
+fn too_long() -> DelayAnswer
+    ensures { λ r. ⌜ r ≡ tooLong ⌝ }
+{
+    DelayAnswer {
+        number: answer::number_of(answer::Refusal::BadHeader),
+        place: 0,
+        delay: 0,
+    }
+}
+
+// A delay in jiffies, in milliseconds.
+#[no_mangle]
+pub extern "C" fn flic_in_milliseconds(jiffies: u32) -> DelayAnswer
+    ensures { λ r. ⌜ r ≡ millisecondsFor jiffies ⌝ }
+{
+    if jiffies > 65535 {
+        return too_long();
+    }
+    let converted = delay::in_milliseconds(Jiffies(jiffies as u16));
+    DelayAnswer {
+        number: 0,
+        place: 0,
+        delay: converted.0,
+    }
+}
+
+// A delay in milliseconds, in jiffies.
+#[no_mangle]
+pub extern "C" fn flic_in_jiffies(delay: u32) -> DelayAnswer
+    ensures { λ r. ⌜ r ≡ jiffiesFor (inJiffies (milliseconds delay)) ⌝ }
+{
+    match delay::in_jiffies(Milliseconds(delay)) {
+        Converted::TooLong => too_long(),
+        Converted::Fits(converted) => DelayAnswer {
+            number: 0,
+            place: 0,
+            delay: converted.0 as u32,
         },
     }
 }

@@ -5,6 +5,10 @@ use Prim.Native.Nat.{ℕ, _+_, _*_, _/_}
 abbrev pub FLC-MAGIC : ℕ
 FLC-MAGIC = 44818
 
+-- hex AF11: "magic AF11" (document 02, Req 06)
+abbrev pub FLI-MAGIC : ℕ
+FLI-MAGIC = 44817
+
 -- hex F1FA
 abbrev pub FRAME-TYPE : ℕ
 FRAME-TYPE = 61946

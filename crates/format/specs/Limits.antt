@@ -1,8 +1,10 @@
 -- The limits of a picture and of a reel (document 01, "What the boards need"), and a size within them. A bound that follows from a
 -- limit is a definition over these.
-use Prim.Native.Nat.{ℕ, _*_, _≤_}
+use Prim.Native.Nat.{ℕ, zero, suc, _*_, _≤_}
 use mathlib.Core.Bool.{Bool, _&&_}
-use lib.Dec.{leb}
+use lib.Dec.{leb, eqb}
+use Rattle.format.specs.declared.Format.{Format}
+use Rattle.format.specs.declared.Format.the-variants.{Flc, Fli}
 use Rattle.format.specs.declared.Size.{Size}
 
 -- "Width is 1 to 320, height 1 to 200"
@@ -23,8 +25,25 @@ maxFrames = 4000
 abbrev pub sizeOk : ℕ → ℕ → Bool
 sizeOk width height = leb 1 width && (leb width maxWidth && (leb 1 height && leb height maxHeight))
 
-abbrev pub sizeOf : ℕ → ℕ → Size
-sizeOf w h = record { width = w; height = h }
+-- the same by the format: "These take FLI only: .. size not 320 by 200 is 2" (document 02, Req 06)
+abbrev pub sizeIn : Format → ℕ → ℕ → Bool
+sizeIn Flc width height = sizeOk width height
+sizeIn Fli width height = eqb width 320 && eqb height 200
+
+abbrev pub sizeFits : Size → Bool
+sizeFits z = sizeIn (z .format) (z .width) (z .height)
+
+-- the number of a format at the C boundary: "0 FLC, any other number FLI"
+abbrev pub formatFrom : ℕ → Format
+formatFrom zero = Flc
+formatFrom (suc n) = Fli
+
+abbrev pub formatNumber : Format → ℕ
+formatNumber Flc = 0
+formatNumber Fli = 1
+
+abbrev pub sizeOf : Format → ℕ → ℕ → Size
+sizeOf f w h = record { width = w; height = h; format = f }
 
 -- the pixels of a picture of that size
 abbrev pub area : Size → ℕ

@@ -12,7 +12,7 @@ use Rattle.words.specs.Words.{Bytes}
 use Rattle.words.specs.Writes.{put}
 use Rattle.words.proofs.Laws.{put-front, bytes-take}
 use Rattle.words.proofs.Tests.{both-true}
-use Rattle.format.specs.Limits.{sizeOk, area}
+use Rattle.format.specs.Limits.{sizeFits, area}
 use Rattle.format.specs.declared.Size.{Size}
 use Rattle.answer.specs.Answer.{Said, done}
 use Rattle.answer.specs.declared.Refusal.the-variants.{NoRoom}
@@ -41,14 +41,14 @@ module _ (z : Size) (previous next : State) where
 
   -- what a write that is done has passed
   record Done-with (out : List ℕ) (n : ℕ) : Type 0 where
-    pub size : sizeOk (z .width) (z .height) ≡ true
+    pub size : sizeFits z ≡ true
     pub previous-long : enough (area z) previous ≡ true
     pub next-long : enough (area z) next ≡ true
     pub many : n ≡ length f
     pub bytes : writeFrame z previous next out .memory .bytes ≡ put out 0 f
 
   module _ (out : List ℕ) where
-    written : sizeOk (z .width) (z .height) ≡ true → enough (area z) previous ≡ true → enough (area z) next ≡ true → writeFrame z previous next out ≡ fitted f out
+    written : sizeFits z ≡ true → enough (area z) previous ≡ true → enough (area z) next ≡ true → writeFrame z previous next out ≡ fitted f out
     unfolding writeFrame
     written e k l = rw (e, k, l)
 
@@ -57,7 +57,7 @@ module _ (z : Size) (previous next : State) where
     done-with n d =
         let o = writeFrame z previous next out in
         let said : Outcome → Said = λ x. x .said in
-        let e = passed said (sizeOk (z .width) (z .height)) {o = o} refl d refl in
+        let e = passed said (sizeFits z) {o = o} refl d refl in
         let k = passed said (enough (area z) previous && enough (area z) next) (e .1) d refl in
         let l = passed said (leb (length f) (length out)) (k .1) d refl in
         let b = both-true (enough (area z) previous) (enough (area z) next) (k .0) in
@@ -92,7 +92,7 @@ module _ (z : Size) (previous next : State) where
         can-be-done = can;
       }
     where
-      can : sizeOk (z .width) (z .height) ≡ true → enough (area z) previous ≡ true → enough (area z) next ≡ true
+      can : sizeFits z ≡ true → enough (area z) previous ≡ true → enough (area z) next ≡ true
           → (out : List ℕ) → frameMost ≤ length out → (n : ℕ) × (writeFrame z previous next out .said ≡ done (n ∷ []))
       can e k l out room =
           let short = house-short (front-exact z previous e (area z) refl k) (front-exact z next e (area z) refl l) in (

@@ -16,29 +16,31 @@ use Rattle.words.proofs.Tests.{by-test}
 use Rattle.words.proofs.Bytewise.{bytes-applied}
 use Rattle.state.specs.State.{State, Picture, Exact}
 use Rattle.format.specs.Limits.{area}
+use Rattle.format.specs.declared.Format.{Format}
+use Rattle.format.specs.declared.Format.the-variants.{Flc, Fli}
 use Rattle.format.specs.declared.Size.{Size}
-use Rattle.format.specs.Format.{FLI-COLOR256, FLI-SS2, FLI-BLACK, FLI-BRUN, FLI-COPY}
+use Rattle.format.specs.Format.{FLI-COLOR256, FLI-BLACK, FLI-BRUN, FLI-COPY}
 use Rattle.walk.specs.Walk.{Walk}
 use Rattle.walk.proofs.Gives.{Gives}
 use Rattle.read_colour.specs.Colour.{colour}
 use Rattle.read_colour.specs.declared.Levels.the-variants.{Of256}
 use Rattle.read_full.specs.Full.{black, copied}
 use Rattle.read_brun.specs.Brun.{brun}
-use Rattle.read_ss2.specs.Ss2.{ss2}
-use Rattle.read_frame.specs.Frame.{ChunkWalk, judged, onPicture, onPalette, subChunk, frame}
+use Rattle.read_frame.specs.Frame.{ChunkWalk, judged, onPicture, onPalette, byKind, kindOk, subChunk, frame}
 use Rattle.read_frame.specs.Reading.{played}
 use Rattle.walk.specs.declared.Verdict.{Verdict}
 use Rattle.walk.specs.declared.Verdict.the-variants.{Ends}
-use Rattle.read_frame.proofs.Laws.{judged-right}
+use Rattle.read_frame.proofs.Laws.{judged-right, chunk-by}
 use Rattle.read_frame.proofs.Sound.{frame-sound, played-exact}
 use Rattle.house_colour.specs.Colours.{colourBody}
 use Rattle.house_colour.proofs.ReadsBack.{colour-reads-back, colour-short}
-use Rattle.house_ss2.specs.Delta.{deltaBody}
-use Rattle.house_ss2.proofs.ReadsBack.{delta-reads-back}
+use Rattle.house_delta.specs.Delta.{deltaKind, deltaBody, deltaChunk}
+use Rattle.house_delta.proofs.Laws.{kind-between}
+use Rattle.house_delta.proofs.ReadsBack.{walkIn, deltaWalk, delta-reads-back}
 use Rattle.house_full.specs.Full.{brunBody, allZero, shorter, fullChunk}
 use Rattle.house_full.proofs.Laws.{sized-small}
 use Rattle.house_full.proofs.ReadsBack.{brun-reads-back, copy-reads-back, black-reads-back}
-use Rattle.house_frame.specs.House.{colourChunk, deltaChunk, pictureChunk, changed, houseChunks, houseFrame, pictureMost, frameMost}
+use Rattle.house_frame.specs.House.{colourChunk, pictureChunk, changed, houseChunks, houseFrame, pictureMost, frameMost}
 use Rattle.house_frame.proofs.Laws.{house-short}
 use Rattle.house_back.specs.Plays.{Acts, Plays, ByteState}
 use Rattle.house_back.proofs.Frames.{Subs, none, sub, length-framed, framed-plays}
@@ -59,26 +61,43 @@ on-palette k end p q r g = record { end = end; ended = no-spare end (g .ended); 
 
 -- the kinds that the house form has
 
-module _ (z : Size) (b : List ℕ) where
-  colour-walk : subChunk z FLI-COLOR256 b ≡ onPalette (length b) (colour Of256 b)
-  unfolding subChunk
-  colour-walk = refl
+-- a kind that an FLI may have has its place in both formats
+both-ok : (kind : ℕ) → kindOk Fli kind ≡ true → (f : Format) → kindOk f kind ≡ true
+both-ok kind e Flc = refl
+both-ok kind e Fli = e
 
-  delta-walk : subChunk z FLI-SS2 b ≡ onPicture (length b) (ss2 (z .width) (z .height) b)
-  unfolding subChunk
-  delta-walk = refl
+-- so does a delta's kind in its own
+delta-ok : (f : Format) → kindOk f (deltaKind f) ≡ true
+delta-ok Flc = refl
+delta-ok Fli = refl
+
+module _ (z : Size) (b : List ℕ) where
+  in-both : (kind : ℕ) → kindOk Fli kind ≡ true → subChunk z kind b ≡ byKind z kind b
+  in-both kind e = chunk-by z kind b true (both-ok kind e (z .format))
+
+  colour-walk : subChunk z FLI-COLOR256 b ≡ onPalette (length b) (colour Of256 b)
+  unfolding byKind
+  colour-walk = in-both FLI-COLOR256 refl
+
+  delta-by-kind : (f : Format) → byKind z (deltaKind f) b ≡ onPicture (length b) (walkIn f (z .width) (z .height) b)
+  unfolding byKind
+  delta-by-kind Flc = refl
+  delta-by-kind Fli = refl
+
+  delta-walk : subChunk z (deltaKind (z .format)) b ≡ onPicture (length b) (deltaWalk z b)
+  delta-walk = chunk-by z (deltaKind (z .format)) b true (delta-ok (z .format)) ∙ delta-by-kind (z .format)
 
   pub black-walk : subChunk z FLI-BLACK b ≡ onPicture (length b) (black (area z))
-  unfolding subChunk
-  black-walk = refl
+  unfolding byKind
+  black-walk = in-both FLI-BLACK refl
 
   pub brun-walk : subChunk z FLI-BRUN b ≡ onPicture (length b) (brun (z .width) (z .height) b)
-  unfolding subChunk
-  brun-walk = refl
+  unfolding byKind
+  brun-walk = in-both FLI-BRUN refl
 
   pub copy-walk : subChunk z FLI-COPY b ≡ onPicture (length b) (copied (area z) b)
-  unfolding subChunk
-  copy-walk = refl
+  unfolding byKind
+  copy-walk = in-both FLI-COPY refl
 
 acts-as : {c d : ChunkWalk} {p q p′ q′ : List ℕ} → c ≡ d → Acts d p q p′ q′ → Acts c p q p′ q′
 acts-as {c} {d} {p} {q} {p′} {q′} e x = subst (λ (k : ChunkWalk). Acts k p q p′ q′) (sym e) x
@@ -121,8 +140,8 @@ module _ (z : Size) (p q : List ℕ) (zp : Picture (z .width) (z .height) p) (zq
   good-delta : length (deltaChunk z p q) ≤ pictureMost → Good z p q (deltaChunk z p q)
   unfolding deltaChunk
   good-delta =
-      good FLI-SS2 (deltaBody w h p q) (ss2 w h (deltaBody w h p q)) (length (deltaBody w h p q)) (λ e. omega arith)
-      (delta-walk z (deltaBody w h p q)) (delta-reads-back w h p q (zq .size .some-wide) (zq .size .wide) (zq .size .high) (zp .pixels) (zq .pixels) bq)
+      good (deltaKind (z .format)) (deltaBody z p q) (deltaWalk z (deltaBody z p q)) (length (deltaBody z p q)) (λ e. omega (arith, kind-between (z .format) .0))
+      (delta-walk z (deltaBody z p q)) (delta-reads-back z p q zp zq bq)
 
   good-shorter : (x y : List ℕ) → (length x ≤ length y → Good z p q x) → Good z p q y → Good z p q (shorter x y)
   unfolding shorter

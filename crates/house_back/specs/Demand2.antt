@@ -6,7 +6,7 @@ use mathlib.Core.List.{List, [], _∷_}
 use mathlib.Core.Bool.{true}
 use lib.ListN.{length, take}
 use Rattle.words.specs.Words.{Bytes}
-use Rattle.format.specs.Limits.{sizeOk, area}
+use Rattle.format.specs.Limits.{sizeFits, area}
 use Rattle.format.specs.declared.Size.{Size}
 use Rattle.answer.specs.Answer.{done}
 use Rattle.state.specs.State.{State, enough, front, refilled}
@@ -22,5 +22,5 @@ pub record Demand2 (z : Size) (previous next : State) : Type 0 where
   pub reads-back : Bytes (next .picture) → Bytes (previous .picture) → (out : List ℕ) (n : ℕ) → writeFrame z previous next out .said ≡ done (n ∷ [])
       → readFrame (take n (writeFrame z previous next out .memory .bytes)) z previous ≡ leaves (done []) (lentPair (refilled (area z) (front (area z) next) previous))
   -- and it is done wherever the size is right, both pairs hold a state and the output has room for a frame
-  pub can-be-done : sizeOk (z .width) (z .height) ≡ true → enough (area z) previous ≡ true → enough (area z) next ≡ true
+  pub can-be-done : sizeFits z ≡ true → enough (area z) previous ≡ true → enough (area z) next ≡ true
       → (out : List ℕ) → frameMost ≤ length out → (n : ℕ) × (writeFrame z previous next out .said ≡ done (n ∷ []))

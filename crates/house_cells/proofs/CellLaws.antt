@@ -6,8 +6,8 @@ use Prim.Native.Nat.{ℕ, zero, suc, _+_, _-_, _*_, _≤_}
 use native.Mathlib.Omega.{arith}
 use lib.ListN.{length, take, drop, length-append, length-drop}
 use lib.Seq.{length-take-le, take-add, drop-drop}
-use Rattle.words.proofs.Laws.{same-eq}
-use Rattle.house_cells.specs.Cells.{Cell, cells, cellsAt, news, stays, Stretch, behind, stretches}
+use Rattle.words.proofs.Laws.{same-eq, same-refl}
+use Rattle.house_cells.specs.Cells.{Cell, cells, cellsAt, news, stays, Stretch, beforeStretch, behind, stretches}
 
 -- lists one after the other
 
@@ -177,3 +177,44 @@ pub split : (cs : List Cell) → Split (stretches cs) cs
 unfolding stretches flatMap
 split [] = rest {cs = []} refl
 split (c ∷ cs) = add (stays c) c refl (split cs)
+
+-- stretches stand apart: each but the first has a gap before it, and with their gaps they are no more than the cells
+
+-- how many cells stretches are, with their gaps
+abbrev pub taken : List Stretch → ℕ
+taken [] = 0
+taken (s ∷ ss) = s .gap + length (s .changed) + taken ss
+
+-- each has a gap before it
+abbrev pub Gapped : List Stretch → Type 0
+Gapped [] = Unit {0}
+Gapped (s ∷ ss) = (1 ≤ s .gap) × Gapped ss
+
+-- each but the first has
+abbrev pub Apart : List Stretch → Type 0
+Apart [] = Unit {0}
+Apart (s ∷ ss) = Gapped ss
+
+add-apart : (b : Bool) (c : Cell) (ss : List Stretch) (n : ℕ) → Apart ss × (taken ss ≤ n) → Apart (behind b c ss) × (taken (behind b c ss) ≤ suc n)
+unfolding behind
+add-apart true c [] n h = (tt, omega arith)
+add-apart true c (s ∷ ss) n h = (h .0, omega (arith, h .1))
+add-apart false c [] n h = (tt, omega arith)
+add-apart false c (s ∷ ss) n h = in-front (s .gap) (s .changed) (h .0) (h .1)
+  where
+    in-front : (g : ℕ) (cs : List Cell) → Gapped ss → g + length cs + taken ss ≤ n
+        → Apart (beforeStretch g c (record { gap = g; changed = cs }) ss) × (taken (beforeStretch g c (record { gap = g; changed = cs }) ss) ≤ suc n)
+    in-front zero cs a k = (a, omega arith)
+    in-front (suc g) cs a k = ((omega arith, a), omega arith)
+
+pub stretches-apart : (cs : List Cell) → Apart (stretches cs) × (taken (stretches cs) ≤ length cs)
+unfolding stretches
+stretches-apart [] = (tt, omega arith)
+stretches-apart (c ∷ cs) = add-apart (stays c) c (stretches cs) (length cs) (stretches-apart cs)
+
+-- of two equal lists there is none
+pub stretches-same : (k n : ℕ) (a : List ℕ) → stretches (cells k n a a) ≡ []
+unfolding cells stretches behind
+stretches-same k zero a = refl
+stretches-same k (suc n) a =
+    ap₂ (λ (b : Bool) (ss : List Stretch). behind b (record { old = take k a; new = take k a }) ss) (same-refl (take k a)) (stretches-same k n (drop k a))

@@ -1,4 +1,5 @@
 pub mod Ahead
 pub mod CellLaws
 pub mod RunLaws
+pub mod EachLaws
 pub mod StretchLaws

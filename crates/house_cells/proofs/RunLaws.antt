@@ -1,17 +1,18 @@
 -- Runs of unchanged or changed cells, and the next stretch by two runs.
-use mathlib.Core.Path.{_≡_, refl, sym, ap, _∙_}
-use mathlib.Core.List.{List, [], _∷_}
+use mathlib.Core.Path.{_≡_, refl, sym, ap, ap₂, _∙_}
+use mathlib.Core.List.{List, [], _∷_, _++_, flatMap}
 use mathlib.Core.Bool.{Bool, true, false, not, cond}
 use Prim.Native.Nat.{ℕ, zero, suc, _+_, _-_, _*_, _≤_, _<_}
 use native.Mathlib.Omega.{arith}
 use native.Mathlib.Nat.{add-sub-cancel-left, mul-le-mul-right}
 use lib.ListN.{length, take, drop, drop-of-length-le}
 use Rattle.words.specs.Words.{same}
+use Rattle.words.proofs.Laws.{same-eq}
 use Rattle.words.proofs.Tests.{by-test}
 use Rattle.house_cells.specs.declared.Sought.{Sought}
 use Rattle.house_cells.specs.declared.Sought.the-variants.{Unchanged, Changed}
-use Rattle.house_cells.specs.Cells.{Cell, cells, stays, Stretch, behind, stretches, isSought, run}
-use Rattle.house_cells.proofs.CellLaws.{length-cells, cell-at}
+use Rattle.house_cells.specs.Cells.{Cell, cells, news, stays, Stretch, behind, stretches, isSought, run}
+use Rattle.house_cells.proofs.CellLaws.{olds, length-cells, cell-at}
 
 -- a run by its first cell
 
@@ -23,12 +24,22 @@ run-nil : (t : Sought) → run t [] ≡ 0
 unfolding run
 run-nil t = refl
 
-run-le : (t : Sought) (cs : List Cell) → run t cs ≤ length cs
+pub run-le : (t : Sought) (cs : List Cell) → run t cs ≤ length cs
 run-le t [] = omega (arith, run-nil t)
 run-le t (c ∷ cs) =
     let h = run-le t cs in
     by-test (λ _. run t (c ∷ cs) ≤ suc (length cs)) (isSought t (stays c))
     (λ e. omega (arith, run-front t true c cs e)) (λ e. omega (arith, run-front t false c cs e))
+
+-- a run of unchanged cells stays as it is
+pub run-kept : (cs : List Cell) → olds (take (run Unchanged cs) cs) ≡ news (take (run Unchanged cs) cs)
+unfolding run flatMap
+run-kept [] = refl
+run-kept (c ∷ cs) =
+    let h = run-kept cs in
+    by-test (λ b. olds (take (cond b (suc (run Unchanged cs)) 0) (c ∷ cs)) ≡ news (take (cond b (suc (run Unchanged cs)) 0) (c ∷ cs))) (stays c)
+    (λ e. ap₂ (λ (a b : List ℕ). a ++ b) (same-eq (c .old) (c .new) e) h)
+    (λ e. refl)
 
 -- the first stretch
 

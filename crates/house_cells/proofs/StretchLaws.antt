@@ -9,7 +9,8 @@ use lib.ListN.{length, take, drop, length-append, length-drop}
 use lib.Seq.{drop-drop}
 use Rattle.words.specs.Writes.{put}
 use Rattle.house_cells.specs.declared.Sought.the-variants.{Changed}
-use Rattle.house_cells.specs.Cells.{Cell, cells, cellsAt, Stretch, stretches, run, Next}
+use Rattle.house_cells.specs.Cells.{Cell, cells, Stretch, stretches, run, Next}
+use Rattle.house_cells.specs.Rows.{stretchAt}
 use Rattle.house_cells.proofs.Ahead.{Ahead, ahead-first, ahead-room, ahead-on, ahead-ends}
 use Rattle.house_cells.proofs.CellLaws.{length-cells, part-cells, flatMap-nil, flatMap-cons}
 use Rattle.house_cells.proofs.RunLaws.{First, stretches-first, stretches-none}
@@ -23,10 +24,6 @@ module _ (k n : ℕ) (p q : List ℕ) where
   unfolding from
   from-first = refl
 
-  -- the stretch of m cells that stands g cells after cell i
-  abbrev pub stretchAt : ℕ → ℕ → ℕ → Stretch
-  stretchAt i g m = record { gap = g; changed = cellsAt k (i + g) m p q }
-
   module _ (i g m : ℕ) (x : Next k n p q i g m) where
     first : g < length (drop i (cells k n p q)) → First (drop i (cells k n p q)) g m
     first h = stretches-first (drop i (cells k n p q)) g m (x .gap) h (x .changed ∙ ap (run Changed) (sym (drop-drop g i (cells k n p q))))
@@ -36,7 +33,7 @@ module _ (k n : ℕ) (p q : List ℕ) where
     none h = stretches-none (drop i (cells k n p q)) (omega (arith, x .gap))
 
     -- there is one
-    pub from-next : 1 ≤ m → from i ≡ stretchAt i g m ∷ from (i + g + m)
+    pub from-next : 1 ≤ m → from i ≡ stretchAt k i g m p q ∷ from (i + g + m)
     unfolding from
     from-next s =
         let cs = cells k n p q in
@@ -68,10 +65,10 @@ module _ (k n : ℕ) (p q : List ℕ) where
     measured-first = record { so-far = omega (arith, ap (λ (ss : List Stretch). length (flatMap f ss)) from-first) }
 
     module _ (i g m t : ℕ) (x : Next k n p q i g m) (r : Measured i t) where
-      pub measured-on : (u : ℕ) → 1 ≤ m → u ≡ length (f (stretchAt i g m)) → Measured (i + g + m) (t + u)
+      pub measured-on : (u : ℕ) → 1 ≤ m → u ≡ length (f (stretchAt k i g m p q)) → Measured (i + g + m) (t + u)
       measured-on u s e =
-          let one = ap (flatMap f) (from-next i g m x s) ∙ flatMap-cons f (stretchAt i g m) (from (i + g + m)) in
-          record { so-far = omega (arith, r .so-far, ap length one, length-append (f (stretchAt i g m)) (flatMap f (from (i + g + m)))) }
+          let one = ap (flatMap f) (from-next i g m x s) ∙ flatMap-cons f (stretchAt k i g m p q) (from (i + g + m)) in
+          record { so-far = omega (arith, r .so-far, ap length one, length-append (f (stretchAt k i g m p q)) (flatMap f (from (i + g + m)))) }
 
       pub measured-all : m ≡ 0 → t ≡ length (flatMap f (stretches (cells k n p q)))
       measured-all s =
@@ -89,10 +86,10 @@ module _ (k n : ℕ) (p q : List ℕ) where
 
     module _ (out : List ℕ) (here i g m : ℕ) (x : Next k n p q i g m) (r : Written out here i) where
       -- v, which f gives of the next stretch, is stored
-      module _ (v : List ℕ) (is : v ≡ f (stretchAt i g m)) (some : 1 ≤ m) where
+      module _ (v : List ℕ) (is : v ≡ f (stretchAt k i g m p q)) (some : 1 ≤ m) where
         whole : flatMap f (from i) ≡ v ++ flatMap f (from (i + g + m))
         whole =
-            ap (flatMap f) (from-next i g m x some) ∙ flatMap-cons f (stretchAt i g m) (from (i + g + m))
+            ap (flatMap f) (from-next i g m x some) ∙ flatMap-cons f (stretchAt k i g m p q) (from (i + g + m))
             ∙ ap (λ (l : List ℕ). l ++ flatMap f (from (i + g + m))) (sym is)
 
         pub written-room : here + length v ≤ length out

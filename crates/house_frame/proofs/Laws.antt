@@ -11,8 +11,8 @@ use Rattle.words.specs.Words.{chunk, same}
 use Rattle.words.specs.Writes.{put}
 use Rattle.words.proofs.Laws.{put-then, length-chunk, false-not-true}
 use Rattle.words.proofs.Tests.{by-test}
-use Rattle.format.specs.Format.{FLI-COLOR256, FLI-SS2, FLI-BRUN, FLI-COPY}
-use Rattle.format.specs.Limits.{area, sizeOk}
+use Rattle.format.specs.Format.{FLI-COLOR256, FLI-BRUN, FLI-COPY}
+use Rattle.format.specs.Limits.{area, sizeFits}
 use Rattle.format.specs.declared.Size.{Size}
 use Rattle.answer.specs.Answer.{done}
 use Rattle.answer.specs.declared.Refusal.the-variants.{ShortSlice, BadSize, NoRoom}
@@ -21,13 +21,14 @@ use Rattle.state.specs.Outcome.{Outcome, lentBytes, leaves, refuse, fitted}
 use Rattle.state.proofs.Laws.{fitted-none, fitted-whole}
 use Rattle.house_colour.specs.Colours.{colourBody}
 use Rattle.house_colour.proofs.ReadsBack.{colour-short}
-use Rattle.house_ss2.specs.Delta.{deltaBody}
+use Rattle.house_delta.specs.Delta.{deltaKind, deltaBody, deltaChunk}
+use Rattle.house_delta.proofs.Laws.{kind-between}
 use Rattle.house_full.specs.Edges.{allEdges}
 use Rattle.house_full.specs.Full.{fullChunk, fullKind}
 use Rattle.house_full.proofs.Edges.{full-edges}
 use Rattle.house_full.proofs.Laws.{sized-small, kind-copy}
 use Rattle.house_full.proofs.FullLeast.{full-shortest}
-use Rattle.house_frame.specs.House.{colourChunk, deltaChunk, pictureChunk, changed, houseChunks, framed, houseFrame, colourChunkMost, pictureMost, frameMost}
+use Rattle.house_frame.specs.House.{colourChunk, pictureChunk, changed, houseChunks, framed, houseFrame, colourChunkMost, pictureMost, frameMost}
 use Rattle.house_frame.specs.Plans.{nothing, planned, colourPlan, deltaPlan, shorterPlan, picturePlan, headerBytes}
 use Rattle.house_frame.specs.Writing.{writeFrame}
 use Rattle.house_frame.specs.declared.ChunkPlan.{ChunkPlan}
@@ -119,8 +120,8 @@ full z q = fullChunk (z .width) (z .height) q
 
 -- r plans a delta
 pub record DeltaPlanned (z : Size) (p q : List ℕ) (r : ChunkPlan) : Type 0 where
-  pub size : r .size ≡ 6 + length (deltaBody (z .width) (z .height) p q)
-  pub bytes : flatten (changed p q (pictureChunk z p q)) ≡ chunk FLI-SS2 (deltaBody (z .width) (z .height) p q)
+  pub size : r .size ≡ 6 + length (deltaBody z p q)
+  pub bytes : flatten (changed p q (pictureChunk z p q)) ≡ chunk (deltaKind (z .format)) (deltaBody z p q)
 
 -- r plans a full chunk
 pub record FullPlanned (z : Size) (p q : List ℕ) (r : ChunkPlan) : Type 0 where
@@ -129,15 +130,17 @@ pub record FullPlanned (z : Size) (p q : List ℕ) (r : ChunkPlan) : Type 0 wher
   pub bytes : flatten (changed p q (pictureChunk z p q)) ≡ full z q
 
 -- a full chunk is no delta
-full-kind : (w h : ℕ) (q : List ℕ) → fullKind w h q ≡ FLI-SS2 → ⊥
-full-kind w h q e = omega (arith, kind-copy w h q {k = fullKind w h q} refl (λ x. omega arith) (λ x. omega arith) .kind)
+full-kind : (z : Size) (q : List ℕ) → fullKind (z .width) (z .height) q ≡ deltaKind (z .format) → ⊥
+full-kind z q e =
+    let low = kind-between (z .format) .1 in
+    omega (arith, low, kind-copy (z .width) (z .height) q {k = fullKind (z .width) (z .height) q} refl (λ x. omega (arith, low)) (λ x. omega (arith, low)) .kind)
 
 -- the delta or the full chunk, whichever is shorter
 
 module _ (z : Size) (q : List ℕ) (d : ℕ) where
-  pub shorter-delta : d < length (full z q) → record { chunks = 1; kind = FLI-SS2; size = d } ≡ shorterPlan z q d
+  pub shorter-delta : d < length (full z q) → (k : ℕ) → k ≡ deltaKind (z .format) → record { chunks = 1; kind = k; size = d } ≡ shorterPlan z q d
   unfolding shorterPlan
-  shorter-delta l = rw (lt-ltb d (length (full z q)) l)
+  shorter-delta l k i = rw (lt-ltb d (length (full z q)) l, i)
 
   pub shorter-full : length (full z q) ≤ d → (k f : ℕ) → k ≡ fullKind (z .width) (z .height) q → f ≡ length (full z q) → record { chunks = 1; kind = k; size = f } ≡ shorterPlan z q d
   unfolding shorterPlan
@@ -148,18 +151,18 @@ module _ (z : Size) (q : List ℕ) (d : ℕ) where
   unfolding shorterPlan
   shorter-brun {r} f k = by-case (ltb d (length (full z q))) f
     where
-      by-case : (t : Bool) → r ≡ cond t (record { chunks = 1; kind = FLI-SS2; size = d }) (planned (fullKind (z .width) (z .height) q) (full z q)) → fullKind (z .width) (z .height) q ≡ FLI-BRUN
-      by-case true i = absurd (omega (arith, ap (λ (x : ChunkPlan). x .kind) i))
+      by-case : (t : Bool) → r ≡ cond t (record { chunks = 1; kind = deltaKind (z .format); size = d }) (planned (fullKind (z .width) (z .height) q) (full z q)) → fullKind (z .width) (z .height) q ≡ FLI-BRUN
+      by-case true i = absurd (omega (arith, kind-between (z .format) .1, ap (λ (x : ChunkPlan). x .kind) i))
       by-case false i = sym (ap (λ (x : ChunkPlan). x .kind) i) ∙ k
 
 module _ (z : Size) (p q : List ℕ) where
-  delta-length : length (deltaChunk z p q) ≡ 6 + length (deltaBody (z .width) (z .height) p q)
+  delta-length : length (deltaChunk z p q) ≡ 6 + length (deltaBody z p q)
   unfolding deltaChunk
-  delta-length = length-chunk FLI-SS2 (deltaBody (z .width) (z .height) p q)
+  delta-length = length-chunk (deltaKind (z .format)) (deltaBody z p q)
 
   -- the plan where there is a change; d: whether the delta is used
   abbrev used : Bool → ChunkPlan
-  used d = cond d (planned FLI-SS2 (deltaChunk z p q)) (planned (fullKind (z .width) (z .height) q) (full z q))
+  used d = cond d (planned (deltaKind (z .format)) (deltaChunk z p q)) (planned (fullKind (z .width) (z .height) q) (full z q))
 
   -- whether the delta is strictly shorter than the full chunk
   abbrev shorter : Bool
@@ -171,18 +174,18 @@ module _ (z : Size) (p q : List ℕ) where
   unfolding deltaPlan
   delta-none e = rw e
 
-  pub delta-made : same p q ≡ false → (d : ℕ) (b : Bool) → d ≡ length (deltaBody (z .width) (z .height) p q) → b ≡ ltb d (allEdges (z .width) (z .height) q)
-      → record { chunk = record { chunks = 1; kind = FLI-SS2; size = 6 + d }; search = not b } ≡ deltaPlan z p q
+  pub delta-made : same p q ≡ false → (d k : ℕ) (b : Bool) → d ≡ length (deltaBody z p q) → k ≡ deltaKind (z .format) → b ≡ ltb d (allEdges (z .width) (z .height) q)
+      → record { chunk = record { chunks = 1; kind = k; size = 6 + d }; search = not b } ≡ deltaPlan z p q
   unfolding deltaPlan
-  delta-made e d b i j =
-      rw e
-      (ap₂ (λ (n : ℕ) (s : Bool). record { chunk = record { chunks = 1; kind = FLI-SS2; size = n }; search = not s }) (omega (arith, delta-length))
+  delta-made e d k b i l j =
+      rw (e, l)
+      (ap₂ (λ (n : ℕ) (s : Bool). record { chunk = record { chunks = 1; kind = deltaKind (z .format); size = n }; search = not s }) (omega (arith, delta-length))
       (j ∙ ap (λ (n : ℕ). ltb n (allEdges (z .width) (z .height) q)) i))
 
   abbrev sought : DeltaPlan
   sought = record {
-    chunk = planned FLI-SS2 (deltaChunk z p q);
-    search = not (ltb (length (deltaBody (z .width) (z .height) p q)) (allEdges (z .width) (z .height) q));
+    chunk = planned (deltaKind (z .format)) (deltaChunk z p q);
+    search = not (ltb (length (deltaBody z p q)) (allEdges (z .width) (z .height) q));
   }
 
   -- where no row is searched it is the picture's plan, and no BRUN chunk's
@@ -194,9 +197,9 @@ module _ (z : Size) (p q : List ℕ) where
       by-case true i = (ap (λ (x : DeltaPlan). x .chunk) i, λ k. absurd (omega (arith, ap (λ (x : DeltaPlan). x .chunk .kind) i)))
       by-case false i =
           let e = ltb-true _ _ (not-false _ (sym (ap (λ (x : DeltaPlan). x .search) i) ∙ s)) in
-          let l = full-edges (z .width) (z .height) q (length (deltaBody (z .width) (z .height) p q)) e in (
+          let l = full-edges (z .width) (z .height) q (length (deltaBody z p q)) e in (
             ap (λ (x : DeltaPlan). x .chunk) i ∙ ap used (sym (lt-ltb (length (deltaChunk z p q)) (length (full z q)) (omega (arith, delta-length)))),
-            λ k. absurd (omega (arith, ap (λ (x : DeltaPlan). x .chunk .kind) i)),
+            λ k. absurd (omega (arith, kind-between (z .format) .1, ap (λ (x : DeltaPlan). x .chunk .kind) i)),
           )
 
   -- where rows are searched there is a change
@@ -227,7 +230,7 @@ module _ (z : Size) (p q : List ℕ) where
   unfolding picturePlan pictureChunk
   picture-measured s =
       by-test (λ d. Counted (changed p q (cond d (deltaChunk z p q) (full z q))) pictureMost (cond (same p q) nothing (used d))) shorter
-      (λ e. plan-counted (same p q) (deltaChunk z p q) pictureMost FLI-SS2
+      (λ e. plan-counted (same p q) (deltaChunk z p q) pictureMost (deltaKind (z .format))
       (omega (arith, sized-small s, full-short, ltb-true (length (deltaChunk z p q)) (length (full z q)) e)))
       (λ e. plan-counted (same p q) (full z q) pictureMost (fullKind (z .width) (z .height) q) (omega (arith, sized-small s, full-short)))
 
@@ -245,14 +248,14 @@ module _ (z : Size) (p q : List ℕ) {r : ChunkPlan} (f : r ≡ picturePlan z p 
     unfolding picturePlan
     some = plan-some (same p q) (pictureChunk z p q) r (used z p q (shorter z p q)) f e
 
-    pub delta-planned : r .kind ≡ FLI-SS2 → DeltaPlanned z p q r
+    pub delta-planned : r .kind ≡ deltaKind (z .format) → DeltaPlanned z p q r
     unfolding pictureChunk deltaChunk
     delta-planned k =
         by-test (λ d. r ≡ used z p q d → flatten (changed p q (pictureChunk z p q)) ≡ cond d (deltaChunk z p q) (full z q) → DeltaPlanned z p q r) (shorter z p q)
         (λ _ i j. record { size = ap (λ (y : ChunkPlan). y .size) i ∙ delta-length z p q; bytes = j })
-        (λ _ i j. absurd (full-kind (z .width) (z .height) q (sym (ap (λ (y : ChunkPlan). y .kind) i) ∙ k))) (some .0) (some .1)
+        (λ _ i j. absurd (full-kind z q (sym (ap (λ (y : ChunkPlan). y .kind) i) ∙ k))) (some .0) (some .1)
 
-    pub full-planned : (r .kind ≡ FLI-SS2 → ⊥) → FullPlanned z p q r
+    pub full-planned : (r .kind ≡ deltaKind (z .format) → ⊥) → FullPlanned z p q r
     unfolding pictureChunk
     full-planned k =
         by-test (λ d. r ≡ used z p q d → flatten (changed p q (pictureChunk z p q)) ≡ cond d (deltaChunk z p q) (full z q) → FullPlanned z p q r) (shorter z p q)
@@ -330,11 +333,11 @@ module _ {z : Size} {s t : State} {a b : ChunkPlan} (p : Planned z s t a b) wher
 -- the checks of a call
 
 module _ (z : Size) (previous next : State) (out : List ℕ) where
-  pub write-size : sizeOk (z .width) (z .height) ≡ false → refuse BadSize 0 (lentBytes out) ≡ writeFrame z previous next out
+  pub write-size : sizeFits z ≡ false → refuse BadSize 0 (lentBytes out) ≡ writeFrame z previous next out
   unfolding writeFrame
   write-size e = rw e
 
-  module _ (e : sizeOk (z .width) (z .height) ≡ true) where
+  module _ (e : sizeFits z ≡ true) where
     pub write-previous : enough (area z) previous ≡ false → refuse ShortSlice 0 (lentBytes out) ≡ writeFrame z previous next out
     unfolding writeFrame
     write-previous f = rw (e, f)

@@ -8,18 +8,14 @@ use mathlib.Core.Bool.{cond}
 use Rattle.state.specs.State.{State}
 use Rattle.format.specs.Limits.{maxArea}
 use Rattle.format.specs.declared.Size.{Size}
-use Rattle.format.specs.Format.{FRAME-TYPE, FLI-COLOR256, FLI-SS2}
+use Rattle.format.specs.Format.{FRAME-TYPE, FLI-COLOR256}
 use Rattle.house_colour.specs.Colours.{colourBody, colourMost}
-use Rattle.house_ss2.specs.Delta.{deltaBody}
+use Rattle.house_delta.specs.Delta.{deltaChunk}
 use Rattle.house_full.specs.Full.{fullChunk}
 
 -- "Colour: kind 4"
 unfoldable pub colourChunk : List ℕ → List ℕ → List ℕ
 colourChunk previous next = chunk FLI-COLOR256 (colourBody previous next)
-
--- "Delta: kind 7"
-unfoldable pub deltaChunk : Size → List ℕ → List ℕ → List ℕ
-deltaChunk z previous next = chunk FLI-SS2 (deltaBody (z .width) (z .height) previous next)
 
 -- "The delta is used when strictly shorter than the full chunk"
 unfoldable pub pictureChunk : Size → List ℕ → List ℕ → List ℕ

@@ -7,11 +7,11 @@ use lib.ListN.{length}
 use Rattle.words.specs.Words.{le16, le32, same}
 use mathlib.Core.Bool.{cond}
 use Rattle.format.specs.declared.Size.{Size}
-use Rattle.format.specs.Format.{FRAME-TYPE, FLI-COLOR256, FLI-SS2}
-use Rattle.house_ss2.specs.Delta.{deltaBody}
+use Rattle.format.specs.Format.{FRAME-TYPE, FLI-COLOR256}
+use Rattle.house_delta.specs.Delta.{deltaKind, deltaBody, deltaChunk}
 use Rattle.house_full.specs.Edges.{allEdges}
 use Rattle.house_full.specs.Full.{fullChunk, fullKind}
-use Rattle.house_frame.specs.House.{colourChunk, deltaChunk}
+use Rattle.house_frame.specs.House.{colourChunk}
 use Rattle.house_frame.specs.declared.ChunkPlan.{ChunkPlan}
 use Rattle.house_frame.specs.declared.DeltaPlan.{DeltaPlan}
 
@@ -36,7 +36,7 @@ picturePlan z previous next =
     let full = fullChunk (z .width) (z .height) next in
     cond (same previous next) nothing
     (cond (ltb (length delta) (length full))
-    (planned FLI-SS2 delta)
+    (planned (deltaKind (z .format)) delta)
     (planned (fullKind (z .width) (z .height) next) full))
 
 -- the delta's plan, and whether a full chunk may be as short: not without a change, nor where the rows have more edges than the delta's body has bytes
@@ -46,8 +46,8 @@ deltaPlan z previous next =
     cond (same previous next)
     (record { chunk = nothing; search = false })
     (record {
-      chunk = planned FLI-SS2 (deltaChunk z previous next);
-      search = not (ltb (length (deltaBody (z .width) (z .height) previous next)) (allEdges (z .width) (z .height) next));
+      chunk = planned (deltaKind (z .format)) (deltaChunk z previous next);
+      search = not (ltb (length (deltaBody z previous next)) (allEdges (z .width) (z .height) next));
     })
 
 -- the plan of the delta, of so many bytes, or of the full chunk
@@ -55,7 +55,7 @@ unfoldable pub shorterPlan : Size → List ℕ → ℕ → ChunkPlan
 shorterPlan z next delta =
     let full = fullChunk (z .width) (z .height) next in
     cond (ltb delta (length full))
-    (record { chunks = 1; kind = FLI-SS2; size = delta })
+    (record { chunks = 1; kind = deltaKind (z .format); size = delta })
     (planned (fullKind (z .width) (z .height) next) full)
 
 -- a frame's header: size, type F1FA, count, "the 8 reserved bytes are 0"

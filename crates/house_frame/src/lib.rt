@@ -11,14 +11,14 @@ ghost use Rattle.format.specs.Format.{FLI-BRUN};
 ghost use Rattle.answer.specs.Answer.{toldWritten};
 ghost use Rattle.state.specs.State.{state, Picture, Exact};
 ghost use Rattle.state.specs.Outcome.{lentBytes, leaves, fitted};
+ghost use Rattle.house_delta.specs.Delta.{deltaChunk};
 ghost use Rattle.house_full.specs.Plan.{rowTypes, fullPlan};
-ghost use Rattle.house_frame.specs.House.{colourChunk, deltaChunk, pictureChunk, changed, houseFrame};
+ghost use Rattle.house_frame.specs.House.{colourChunk, pictureChunk, changed, houseFrame};
 ghost use Rattle.house_frame.specs.Plans.{colourPlan, deltaPlan, shorterPlan, picturePlan, headerBytes};
 ghost use Rattle.house_frame.specs.Writing.{writeFrame};
 use answer::Refusal;
 use answer::Written;
 use format::FLI_COLOR256;
-use format::FLI_SS2;
 use format::FRAME_TYPE;
 use format::PALETTE_BYTES;
 use format::Size;
@@ -75,12 +75,13 @@ fn measure_delta(previous: &[u8], next: &[u8], size: Size) -> DeltaPlan
             search: false,
         };
     }
-    let delta = house_ss2::delta_size(previous, next, size.width, size.height);
+    let delta = house_delta::delta_size(previous, next, size);
+    let format = size.format;
     let edges = house_full::more_edges(next, size.width, size.height, delta);
     DeltaPlan {
         chunk: ChunkPlan {
             chunks: 1,
-            kind: FLI_SS2,
+            kind: house_delta::delta_kind(format),
             size: 6 + delta,
         },
         search: !edges,
@@ -102,9 +103,10 @@ fn measure_picture(rows: &mut [u8], next: &[u8], size: Size, delta: usize) -> Ch
             size: full.size,
         };
     }
+    let format = size.format;
     ChunkPlan {
         chunks: 1,
-        kind: FLI_SS2,
+        kind: house_delta::delta_kind(format),
         size: delta,
     }
 }
@@ -154,9 +156,11 @@ fn write_picture(
     if plan.chunks == 0 {
         return;
     }
-    if plan.kind == FLI_SS2 {
-        put_header(out, at, plan.size, FLI_SS2);
-        house_ss2::write_delta(out, at + 6, previous, next, size.width, size.height);
+    let format = size.format;
+    let kind = house_delta::delta_kind(format);
+    if plan.kind == kind {
+        put_header(out, at, plan.size, kind);
+        house_delta::write_delta(out, at + 6, previous, next, size);
         return;
     }
     house_full::write_full(out, at, next, rows, size.width, size.height, plan.kind);
@@ -283,7 +287,7 @@ pub fn write_frame(
         ⌜ leaves (toldWritten r) (lentBytes (now (out .exit)))
         ≡ writeFrame size (state (now («previous_picture» .entry)) (now («previous_palette» .entry))) (state (now («next_picture» .entry)) (now («next_palette» .entry))) (now (out .entry)) ⌝ }
 {
-    if !format::size_ok(size.width, size.height) {
+    if !format::size_fits(size) {
         return Written::Refused(Refusal::BadSize, 0);
     }
     let n = size.width * size.height;

@@ -108,7 +108,7 @@ module _ (unit least : ℕ) (b : List ℕ) (x₀ m₀ k₀ : ℕ) (out₀ : List
 -- the packets that shorten the gap, and then those of the units
 
 module _ (least longest g s : ℕ) (vs : List (List ℕ)) (es : s ≡ shortenings longest g) where
-  gap-count : length (gapPackets least longest g vs) ≡ s + length (unitPackets least (g - longest * s) 0 vs)
+  pub gap-count : length (gapPackets least longest g vs) ≡ s + length (unitPackets least (g - longest * s) 0 vs)
   unfolding gapPackets
   gap-count =
       ap (λ (j : ℕ). length (replicate j (copy longest []) ++ unitPackets least (g - longest * j) 0 vs)) (sym es)

@@ -2,5 +2,6 @@ pub mod UnitLaws
 pub mod PacketLaws
 pub mod GapLaws
 pub mod RowLaws
+pub mod CountLaws
 pub mod Turns
 pub mod PacketsBack

@@ -9,9 +9,10 @@ use lib.ListN.{length, take, drop, getD, length-append, length-drop}
 use lib.Seq.{length-take-le}
 use Rattle.words.proofs.Tests.{by-test}
 use Rattle.house_cells.proofs.CellLaws.{flatMap-cons}
+use Rattle.house_cells.proofs.EachLaws.{cells-inside}
 use Rattle.house_packets.specs.Packets.{Packet, copy, repeat, packetBytes, bytes, unitsOf, equals, repeats, upToRepeat, firstPacket, unitPackets}
 use Rattle.house_packets.specs.Units.{unitAt, unitsAt, PacketAt}
-use Rattle.house_packets.proofs.UnitLaws.{length-units, drop-units, take-units, flat-units, first-unit, units-inside, equals-itself, equals-le, equals-least, until-some, until-le, until-least}
+use Rattle.house_packets.proofs.UnitLaws.{length-units, drop-units, take-units, flat-units, first-unit, equals-itself, equals-le, equals-least, until-some, until-le, until-least}
 
 -- the first packet of some units
 
@@ -51,7 +52,7 @@ module _ (unit least : ℕ) (some-unit : 1 ≤ unit) (small : unit ≤ 2) (b : L
 
   -- n units from unit x on lie in the row, two bytes a unit at most
   lies : (n : ℕ) → n ≤ m → (n * unit ≤ 2 * n) × (x * unit + n * unit ≤ length b)
-  lies n h = (omega (arith, mul-le-mul-left n small), omega (arith, units-inside unit (x + n) (x + m) (length b) (omega arith) row))
+  lies n h = (omega (arith, mul-le-mul-left n small), omega (arith, cells-inside unit (x + n) (x + m) (length b) (omega arith) row))
 
   -- a repeat: n of the first 127 units are like the first
   pub repeat-at : (n : ℕ) → repeats least (unitsAt unit b x m) ≡ true → n ≡ equals (unitAt unit b x) (unitsAt unit b x (min 127 m))

@@ -4,7 +4,6 @@ use mathlib.Core.List.{List, [], _∷_, _++_, map, flatten}
 use mathlib.Core.Bool.{Bool, true, false, cond}
 use Prim.Native.Nat.{ℕ, zero, suc, _+_, _-_, _*_, _≤_, _<_, min}
 use native.Mathlib.Omega.{arith}
-use native.Mathlib.Nat.{mul-le-mul-left, mul-le-mul-right}
 use lib.Dec.{eqb, leb}
 use lib.ListN.{length, take, drop, getD}
 use lib.Seq.{drop-drop, take-add, drop-cons}
@@ -66,18 +65,6 @@ module _ (unit : ℕ) (b : List ℕ) where
   unfolding unitsAt
   no-units x zero h = refl
   no-units x (suc m) h = absurd (omega arith)
-
--- unit x lies in a row that has more units
-pub unit-inside : (unit x n l : ℕ) → x < n → n * unit ≤ l → x * unit + unit ≤ l
-unit-inside unit x n l h k = omega (arith, mul-le-mul-right unit h)
-
--- fewer units lie in it too
-pub units-inside : (unit n m l : ℕ) → n ≤ m → m * unit ≤ l → n * unit ≤ l
-units-inside unit n m l h k = omega (arith, mul-le-mul-right unit h)
-
--- and they are no more than its bytes
-pub units-few : (unit n l : ℕ) → 1 ≤ unit → n * unit ≤ l → n ≤ l
-units-few unit n l h k = omega (arith, mul-le-mul-left n h)
 
 -- the next pixels of cells
 pub units-cells : (unit : ℕ) (a b : List ℕ) (x m : ℕ) → map (λ (c : Cell). c .new) (cellsAt unit x m a b) ≡ unitsAt unit b x m
@@ -182,7 +169,7 @@ module _ (v : List ℕ) where
 -- a repeat, and the units before one
 
 module _ (least : ℕ) where
-  repeats-front : (v : List ℕ) (us : List (List ℕ)) → repeats least (v ∷ us) ≡ leb least (suc (equals v us))
+  pub repeats-front : (v : List ℕ) (us : List (List ℕ)) → repeats least (v ∷ us) ≡ leb least (suc (equals v us))
   unfolding repeats
   repeats-front v us = refl
 
@@ -211,7 +198,7 @@ module _ (least : ℕ) where
   unfolding upToRepeat
   until-none = refl
 
-  until-front : (v : List ℕ) (us : List (List ℕ)) (t : Bool) → repeats least (v ∷ us) ≡ t → upToRepeat least (v ∷ us) ≡ cond t 0 (suc (upToRepeat least us))
+  pub until-front : (v : List ℕ) (us : List (List ℕ)) (t : Bool) → repeats least (v ∷ us) ≡ t → upToRepeat least (v ∷ us) ≡ cond t 0 (suc (upToRepeat least us))
   unfolding upToRepeat
   until-front v us t e = ap (λ (s : Bool). cond s 0 (suc (upToRepeat least us))) e
 

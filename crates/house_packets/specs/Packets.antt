@@ -1,6 +1,6 @@
--- The packets of a row in a delta of the house form (document 01, "House form of a frame", Delta). A row is seen as units of some pixels each.
--- unit: how many pixels a packet counts as one, 2 in kind 7; least: how many equal next units make a repeat, 2 in kind 7;
--- longest: the longest skip, 254 in kind 7.
+-- The packets of a row in a delta of the house form (document 01, "House form of a frame", Delta; document 02, Req 06). A row is seen as units of
+-- some pixels each. unit: how many pixels a packet counts as one, 2 in kind 7 and 1 in kind 12; least: how many equal next units make a repeat,
+-- 2 in kind 7 and 3 in kind 12; longest: the longest skip, 254 in kind 7 and 255 in kind 12. The words quoted below are document 01's, of kind 7.
 use Prim.Native.Nat.{ℕ, zero, suc, pred, _-_, _*_, _/_, min}
 use mathlib.Core.List.{List, [], _∷_, _++_, map, flatten, flatMap}
 use mathlib.Core.Bool.{Bool, false, cond}

@@ -16,7 +16,7 @@ use Rattle.words.specs.Writes.{Write, put, applied}
 use Rattle.words.proofs.Laws.{put-front, same-eq, length-chunk, bytes-take}
 use Rattle.words.proofs.Tests.{by-test}
 use Rattle.format.specs.Format.{FLI-COLOR256, FLI-BLACK, FLI-BRUN, FLI-COPY}
-use Rattle.format.specs.Limits.{area, sizeOk}
+use Rattle.format.specs.Limits.{area, sizeFits}
 use Rattle.format.specs.declared.Size.{Size}
 use Rattle.answer.specs.Answer.{Said, done, refused}
 use Rattle.answer.specs.declared.Refusal.the-variants.{ShortSlice, NoRoom}
@@ -54,7 +54,7 @@ refused-not-done e = let z : _≡_ {A = ℕ} 0 1 = cc in absurd (omega arith)
 
 -- the size and the previous pair are right, and the frame is done
 record Taken (z : Size) (previous : State) (b : List ℕ) : Type 0 where
-  pub size : sizeOk (z .width) (z .height) ≡ true
+  pub size : sizeFits z ≡ true
   pub room : enough (area z) previous ≡ true
   pub answer : frame z b .answer ≡ Done
 
@@ -62,7 +62,7 @@ taken : (z : Size) (previous : State) (b : List ℕ) → Accepted z previous b �
 unfolding readFrame
 taken z previous b e =
     let said : Outcome → Said = λ o. o .said in
-    let s = passed said (sizeOk (z .width) (z .height)) {o = readFrame b z previous} refl e refl in
+    let s = passed said (sizeFits z) {o = readFrame b z previous} refl e refl in
     let r = passed said (enough (area z) previous) (s .1) e refl in
     record { size = s .0; room = r .0; answer = answered (frame z b .answer) (ap said (r .1) ∙ e) }
   where

@@ -3,7 +3,7 @@ use mathlib.Core.Path.{_≡_, ap, ap₂, _∙_}
 use mathlib.Core.List.{List}
 use mathlib.Core.Bool.{true, false}
 use Prim.Native.Nat.{ℕ}
-use Rattle.format.specs.Limits.{area, sizeOk}
+use Rattle.format.specs.Limits.{area, sizeFits}
 use Rattle.format.specs.declared.Size.{Size}
 use Rattle.answer.specs.Answer.{toldWritten}
 use Rattle.answer.specs.declared.Refusal.the-variants.{ShortSlice, BadSize}
@@ -24,11 +24,11 @@ rewrote-from z s t a p q work out out′ e f g =
     ∙ ap (λ (o : Outcome). leaves (o .said) (lentBytesPair (o .memory .bytes) (refilled (area z) t work))) g
 
 module _ (b : List ℕ) (z : Size) (previous work : State) (out : List ℕ) where
-  pub rewrite-size : sizeOk (z .width) (z .height) ≡ false → rewriteFrame b z previous work out ≡ refuse BadSize 0 (lentBytesPair out work)
+  pub rewrite-size : sizeFits z ≡ false → rewriteFrame b z previous work out ≡ refuse BadSize 0 (lentBytesPair out work)
   unfolding rewriteFrame
   rewrite-size e = rw e
 
-  module _ (e : sizeOk (z .width) (z .height) ≡ true) where
+  module _ (e : sizeFits z ≡ true) where
     pub rewrite-short : enough (area z) previous ≡ false → rewriteFrame b z previous work out ≡ refuse ShortSlice 0 (lentBytesPair out work)
     unfolding rewriteFrame
     rewrite-short i = rw (e, i)

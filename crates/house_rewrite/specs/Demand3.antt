@@ -69,7 +69,7 @@ pub data FullKind : ℕ → Type 0 where
   brun : FullKind FLI-BRUN
   copy : FullKind FLI-COPY
 
--- "Fix a size, a previous picture and a previous palette"
+-- "Fix a size, a previous picture and a previous palette"; the size has the format: "its two frames are both FLC or both FLI" (document 02, Req 06)
 module _ (z : Size) (previous : State) where
   -- a frame "that the reader accepts there"
   abbrev pub Accepted : List ℕ → Type 0

@@ -3,7 +3,7 @@ use Prim.Native.Nat.{ℕ}
 use mathlib.Core.List.{List}
 use mathlib.Core.Bool.{_&&_}
 use Rattle.words.specs.Words.{require_else_then_}
-use Rattle.format.specs.Limits.{area, sizeOk}
+use Rattle.format.specs.Limits.{area, sizeFits}
 use Rattle.format.specs.declared.Size.{Size}
 use Rattle.answer.specs.declared.Refusal.the-variants.{ShortSlice, BadSize}
 use Rattle.answer.specs.declared.Answer.{Answer}
@@ -29,6 +29,6 @@ rewriteBy size f (Refused e place) previous work out = refuse e place (lentBytes
 unfoldable pub rewriteFrame : List ℕ → Size → State → State → List ℕ → Outcome
 unfolding frame houseFrame
 rewriteFrame bytes size previous work out =
-    require sizeOk (size .width) (size .height) else refuse BadSize 0 (lentBytesPair out work) then
+    require sizeFits size else refuse BadSize 0 (lentBytesPair out work) then
     require enough (area size) previous && enough (area size) work else refuse ShortSlice 0 (lentBytesPair out work) then
     rewriteBy size (frame size bytes) (frame size bytes .answer) (front (area size) previous) work out

@@ -60,7 +60,7 @@ pub fn rewrite_frame(
         ≡ rewriteFrame (now (bytes .entry)) size (state (now («previous_picture» .entry)) (now («previous_palette» .entry)))
         (state (now («work_picture» .entry)) (now («work_palette» .entry))) (now (out .entry)) ⌝ }
 {
-    if !format::size_ok(size.width, size.height) {
+    if !format::size_fits(size) {
         return Written::Refused(Refusal::BadSize, 0);
     }
     let n = size.width * size.height;

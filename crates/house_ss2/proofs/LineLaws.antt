@@ -10,10 +10,10 @@ use borrow.Author.Tests.{eq-eqb, ne-eqb}
 use Rattle.words.specs.Words.{le16}
 use Rattle.words.specs.Writes.{put}
 use Rattle.words.proofs.Laws.{put-then, put-before}
+use Rattle.house_cells.specs.Rows.{row}
 use Rattle.house_packets.specs.Packets.{bytes}
 use Rattle.house_packets.specs.Units.{Form, Stores}
 use Rattle.house_ss2.specs.Line.{linePackets, counted, lastChanges, line}
-use Rattle.house_ss2.specs.Rows.{row}
 
 -- kind 7's numbers
 pub pairs-form : Form 2 2 254

@@ -7,9 +7,9 @@ ghost use lib.ListN.{length};
 ghost use Rattle.words.specs.Writes.{put};
 ghost use Rattle.format.specs.Limits.{Wide, High};
 ghost use Rattle.house_cells.specs.Cells.{cellsAt};
+ghost use Rattle.house_cells.specs.Rows.{row, rowAt, stretchAt};
 ghost use Rattle.house_ss2.specs.Line.{counted, lastChanges, line, lineMost};
 ghost use Rattle.house_ss2.specs.Delta.{lines, skipWord, stretchLines, changedRows, lineCount, deltaBody, deltaMost};
-ghost use Rattle.house_ss2.specs.Rows.{row, rowAt, stretchAt};
 
 // Kind 7 counts pairs; two equal ones are a repeat, and the longest skip is 254.
 const UNIT: usize = 2;

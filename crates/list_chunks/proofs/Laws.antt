@@ -21,6 +21,9 @@ use Rattle.state.proofs.Laws.{fitted-none, fitted-whole}
 use Rattle.reel_header.specs.Head.{headOf}
 use Rattle.chunks.specs.Spans.{HEADER-BYTES, extent}
 use Rattle.chunks.specs.declared.Extent.{Extent}
+use Rattle.format.specs.declared.Size.{Size}
+use Rattle.delay.specs.declared.Milliseconds.{Milliseconds}
+use Rattle.reel_header.specs.declared.Takes.the-variants.{FlcOnly}
 use Rattle.reel_header.specs.declared.Head.{Head}
 use Rattle.reel_header.specs.declared.Head.the-variants as head
 use Rattle.list_text.specs.Text.{refusedLine}
@@ -84,17 +87,17 @@ module _ (b : List ℕ) where
   listing-long h = simp (lt-leb (length b) LIST-INPUT h)
 
   module _ (few : length b ≤ LIST-INPUT) where
-    pub listing-head : (x : Head) → headOf b ≡ x → listing b ≡ headLines b x
+    pub listing-head : (x : Head) → headOf FlcOnly b ≡ x → listing b ≡ headLines b x
     unfolding listing
     listing-head x e = ap (λ (y : Head). cond (leb (length b) LIST-INPUT) (headLines b y) (refusedLine (number NoRoom) 0)) e ∙ simp (le-leb (length b) LIST-INPUT few)
 
     -- m: the length of the part that was walked
-    pub listing-walk : (w h frames size speed : ℕ) → headOf b ≡ head.Reel w h frames size speed → (m : ℕ) → m ≡ size
-        → (x : Extent) → extent (take m b) (frames + 1) HEADER-BYTES ≡ x → listing b ≡ walkLines (take m b) w h frames x
-    listing-walk w h frames size speed y m k x e =
+    pub listing-walk : (z : Size) (frames size : ℕ) (speed : Milliseconds) → headOf FlcOnly b ≡ head.Reel z frames size speed → (m : ℕ) → m ≡ size
+        → (x : Extent) → extent (take m b) (frames + 1) HEADER-BYTES ≡ x → listing b ≡ walkLines (take m b) (z .width) (z .height) frames x
+    listing-walk z frames size speed y m k x e =
         listing-head _ y
-        ∙ ap (λ (n : ℕ). walkLines (take n b) w h frames (extent (take n b) (suc frames) HEADER-BYTES)) (sym k)
-        ∙ ap (walkLines (take m b) w h frames) (ap (λ (n : ℕ). extent (take m b) n HEADER-BYTES) (sym (add-one frames)) ∙ e)
+        ∙ ap (λ (n : ℕ). walkLines (take n b) (z .width) (z .height) frames (extent (take n b) (suc frames) HEADER-BYTES)) (sym k)
+        ∙ ap (walkLines (take m b) (z .width) (z .height) frames) (ap (λ (n : ℕ). extent (take m b) n HEADER-BYTES) (sym (add-one frames)) ∙ e)
 
 -- list; n: the listing's length
 

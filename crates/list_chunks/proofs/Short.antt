@@ -22,6 +22,8 @@ use Rattle.chunks.specs.declared.Header.{Header}
 use Rattle.chunks.specs.declared.Header.the-variants.{Fault, Chunk}
 use Rattle.chunks.proofs.Headers.{header-in}
 use Rattle.reel_header.specs.Head.{headOf}
+use Rattle.format.specs.declared.Size.{Size}
+use Rattle.reel_header.specs.declared.Takes.the-variants.{FlcOnly}
 use Rattle.reel_header.specs.declared.Head.{Head}
 use Rattle.reel_header.specs.declared.Head.the-variants as head
 use Rattle.chunks.specs.Spans.{HEADER-BYTES, extent}
@@ -108,15 +110,13 @@ module _ (b : List ℕ) (bytes : (i : ℕ) → getD b i 0 < 256) (few : length b
 -- a whole reel
 
 -- m: the length of the part that is the reel
-pub listed-in : (b : List ℕ) (w h frames size m : ℕ) → length b ≤ LIST-INPUT → ReelIn b w h frames size → m ≡ size → Listed (take m b) w h frames
-listed-in b w h frames size m few i k =
+pub listed-in : (b : List ℕ) (z : Size) (frames size m : ℕ) → length b ≤ LIST-INPUT → ReelIn b z frames size → m ≡ size → Listed (take m b) (z .width) (z .height) frames
+listed-in b z frames size m few i k =
     let n = length-take-le m b (omega (arith, i .most)) in
-    record { long = omega (arith, i .least); short = omega (arith, i .most); sized = i .sized; few = i .few-frames }
+    record { long = omega (arith, i .least); short = omega (arith, i .most); sized = size-in z (i .sized); few = i .few-frames }
 
 pub listed-head : (b : List ℕ) (w h frames : ℕ) → Listed b w h frames → length (headLine w h frames) ≤ headMost
-listed-head b w h frames l =
-    let s = size-in w h (l .sized) in
-    head-short w h frames (s .wide) (s .high) (l .few)
+listed-head b w h frames l = head-short w h frames (l .sized .wide) (l .sized .high) (l .few)
 
 pub reel-short : (b : List ℕ) → ((i : ℕ) → getD b i 0 < 256) → (w h frames end n : ℕ) → Listed b w h frames → HEADER-BYTES ≤ end → end ≤ length b
     → length (headLine w h frames) + length (childrenOf b 0 0 end n HEADER-BYTES) + length okLine ≤ listMost
@@ -147,15 +147,15 @@ walked-short b bytes w h frames l (extent-is.Fault e place) q =
 
 headed-short : (b : List ℕ) → Bytes b → length b ≤ LIST-INPUT → (x : Head) → HeadIn b x → length (headLines b x) ≤ listMost
 headed-short b bytes few (head.Fault e) i = omega (arith, refusal-short e 0 (omega arith))
-headed-short b bytes few (head.Reel w h frames size speed) i =
-    let l = listed-in b w h frames size size few i refl in
-    walked-short (take size b) (bytes-take size b bytes) w h frames l _ refl
+headed-short b bytes few (head.Reel z frames size speed) i =
+    let l = listed-in b z frames size size few i refl in
+    walked-short (take size b) (bytes-take size b bytes) (z .width) (z .height) frames l _ refl
 
 pub listing-short : (b : List ℕ) → Bytes b → length (listing b) ≤ listMost
 listing-short b bytes =
     by-test (λ t. length (listing b) ≤ listMost) (leb (length b) LIST-INPUT)
     (λ e. let few = leb-true (length b) LIST-INPUT e in
-    omega (arith, ap length (listing-head b few _ refl), headed-short b bytes few (headOf b) (head-in b _ refl)))
+    omega (arith, ap length (listing-head b few _ refl), headed-short b bytes few (headOf FlcOnly b) (head-in FlcOnly b _ refl)))
     (λ e. omega (arith, ap length (listing-long b (leb-false (length b) LIST-INPUT e)), refusal-short NoRoom 0 (omega arith)))
 
 -- the code's LIST_MOST is that

@@ -16,6 +16,7 @@ use Rattle.reel_header.specs.Head.{headOf}
 use Rattle.chunks.specs.Spans.{HEADER-BYTES, extent}
 use Rattle.chunks.specs.declared.Extent.{Extent}
 use Rattle.chunks.specs.declared.Extent.the-variants.{Fault, End}
+use Rattle.reel_header.specs.declared.Takes.the-variants.{FlcOnly}
 use Rattle.reel_header.specs.declared.Head.{Head}
 use Rattle.reel_header.specs.declared.Head.the-variants as head
 use Rattle.list_text.specs.Text.{headLine, chunkLine, okLine, refusedLine}
@@ -81,10 +82,10 @@ walkLines b width height frames (End end) = reelLines b width height frames end
 -- "the other refusals are the trailer walk's, the trailer itself unread"
 abbrev pub headLines : List ℕ → Head → List ℕ
 headLines bytes (head.Fault e) = refusedLine (number e) 0
-headLines bytes (head.Reel width height frames size speed) =
-    walkLines (take size bytes) width height frames (extent (take size bytes) (suc frames) HEADER-BYTES)
+headLines bytes (head.Reel picture frames size speed) =
+    walkLines (take size bytes) (picture .width) (picture .height) frames (extent (take size bytes) (suc frames) HEADER-BYTES)
 
--- "reads up to 65,536 bytes .. Input past that is refused 3, place 0"
+-- "reads up to 65,536 bytes .. Input past that is refused 3, place 0"; "Listing .. stay FLC" (document 02, Req 06)
 abbrev pub LIST-INPUT : ℕ
 LIST-INPUT = 65536
 
@@ -92,7 +93,7 @@ unfoldable pub listing : List ℕ → List ℕ
 unfolding headLine refusedLine chunkLines headOf extent
 listing bytes =
     require leb (length bytes) LIST-INPUT else refusedLine (number NoRoom) 0 then
-    headLines bytes (headOf bytes)
+    headLines bytes (headOf FlcOnly bytes)
 
 -- the text at the front of the output and its rest unchanged, or refusal 3 where the output is shorter than the text
 unfoldable pub list : List ℕ → List ℕ → Outcome

@@ -1,10 +1,8 @@
 -- The room that a listing takes: what the contracts of the functions below `list_into` and of the listing program cite.
 use Prim.Native.Nat.{ℕ, _+_, _*_, _-_, _/_, _≤_}
-use mathlib.Core.Path.{_≡_}
 use mathlib.Core.List.{List}
-use mathlib.Core.Bool.{true}
 use lib.ListN.{length}
-use Rattle.format.specs.Limits.{sizeOk, maxFrames}
+use Rattle.format.specs.Limits.{Sized, maxFrames}
 use Rattle.chunks.specs.Spans.{HEADER-BYTES}
 use Rattle.list_text.specs.Text.{headMost, lineMost, okLine}
 use Rattle.list_chunks.specs.Listing.{LIST-INPUT}
@@ -13,7 +11,7 @@ use Rattle.list_chunks.specs.Listing.{LIST-INPUT}
 pub record Listed (b : List ℕ) (w h frames : ℕ) : Type 0 where
   pub long : HEADER-BYTES ≤ length b
   pub short : length b ≤ LIST-INPUT
-  pub sized : sizeOk w h ≡ true
+  pub sized : Sized w h
   pub few : frames ≤ maxFrames
 
 -- from offset start of the output on, room for a line for each 6 of so many bytes

@@ -18,6 +18,7 @@ use format::FLI_PSTAMP;
 use format::FRAME_TYPE;
 use format::PREFIX_TYPE;
 use reel_header::Head;
+use reel_header::Takes;
 
 // The most bytes of the input.
 pub const LIST_INPUT: usize = 65536;
@@ -151,17 +152,23 @@ pub fn list_text(out: &mut [u8], bytes: &[u8]) -> usize
     if bytes.len() > LIST_INPUT {
         return list_text::put_refused(out, Refusal::NoRoom, 0);
     }
-    match reel_header::head_of(bytes) {
+    match reel_header::head_of(Takes::FlcOnly, bytes) {
         Head::Fault(e) => list_text::put_refused(out, e, 0),
         Head::Reel {
-            width,
-            height,
+            picture,
             frames,
             size,
             speed: _,
         } => match chunks::walk_frames(&bytes[0..size], frames + 1) {
             Extent::Fault(e, place) => list_text::put_refused(out, e, place),
-            Extent::End(end) => list_reel(out, &bytes[0..size], width, height, frames, end),
+            Extent::End(end) => list_reel(
+                out,
+                &bytes[0..size],
+                picture.width,
+                picture.height,
+                frames,
+                end,
+            ),
         },
     }
 }

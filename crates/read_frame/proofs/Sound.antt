@@ -27,7 +27,7 @@ use Rattle.read_full.proofs.Laws.{black-sound, copied-sound}
 use Rattle.read_brun.proofs.Laws.{brun-sound}
 use Rattle.read_lc.proofs.Laws.{lc-sound}
 use Rattle.read_ss2.proofs.Laws.{ss2-sound}
-use Rattle.read_frame.specs.Frame.{ChunkWalk, FrameWalk, writesAfter, onPicture, onPalette, subChunk, subChunks, afterFrameHeader, frame}
+use Rattle.read_frame.specs.Frame.{ChunkWalk, FrameWalk, writesAfter, onPicture, onPalette, byKind, kindOk, subChunk, subChunks, afterFrameHeader, frame}
 use Rattle.read_frame.specs.Reading.{played}
 use Rattle.read_frame.proofs.Laws.{chunks-by}
 
@@ -41,9 +41,9 @@ none : (z : Size) (b : List ℕ) → FrameSound z b [] []
 none z b = record { in-picture = tt; in-palette = tt; of-bytes = λ i. (tt, tt) }
 
 module _ (z : Size) (wide : 1 ≤ z .width) where
-  chunk-sound : (kind : ℕ) (b : List ℕ) → FrameSound z b (subChunk z kind b .pixels) (subChunk z kind b .colours)
-  unfolding subChunk
-  chunk-sound kind b =
+  kind-sound : (kind : ℕ) (b : List ℕ) → FrameSound z b (byKind z kind b .pixels) (byKind z kind b .colours)
+  unfolding byKind
+  kind-sound kind b =
       cond-holds Ok (eqb kind FLI-COLOR256) _ _ (on-palette _ (colour-sound Of256 b))
       (cond-holds Ok (eqb kind FLI-SS2) _ _ (on-picture _ (ss2-sound (z .width) (z .height) b wide))
       (cond-holds Ok (eqb kind FLI-COLOR) _ _ (on-palette _ (colour-sound Of64 b))
@@ -60,6 +60,10 @@ module _ (z : Size) (wide : 1 ≤ z .width) where
 
       on-palette : (k : Walk) → Sound b 768 k → Ok (onPalette (length b) k)
       on-palette k s = record { in-picture = tt; in-palette = s .inside; of-bytes = λ i. (tt, s .bytewise i) }
+
+  chunk-sound : (kind : ℕ) (b : List ℕ) → FrameSound z b (subChunk z kind b .pixels) (subChunk z kind b .colours)
+  unfolding subChunk
+  chunk-sound kind b = cond-holds (λ (c : ChunkWalk). FrameSound z b (c .pixels) (c .colours)) (kindOk (z .format) kind) _ _ (kind-sound kind b) (none z b)
 
   -- what follows a sub-chunk: all of it, or nothing
   sound-after : (b : List ℕ) (v : Verdict) (ps cs : List Write) → FrameSound z b ps cs → FrameSound z b (writesAfter v ps) (writesAfter v cs)

@@ -14,7 +14,7 @@ use Rattle.words.specs.Words.{part}
 use Rattle.words.specs.Writes.{Write, applied}
 use Rattle.words.proofs.Laws.{Inside, length-applied}
 use Rattle.answer.specs.Answer.{Said, done, refused}
-use Rattle.format.specs.Limits.{sizeOk}
+use Rattle.format.specs.Limits.{sizeFits}
 use Rattle.answer.specs.declared.Refusal.{Refusal}
 use Rattle.answer.specs.declared.Refusal.the-variants.{ShortSlice, BadSize}
 use Rattle.walk.specs.declared.Verdict.{Verdict}
@@ -45,7 +45,7 @@ use Rattle.read_frame.proofs.Sound.{frame-sound}
 module _ (b : List ℕ) (z : Size) (s t : State) (es : enough (area z) s ≡ true) (et : enough (area z) t ≡ true) where
   pub said-regardless : readFrame b z s .said ≡ readFrame b z t .said
   unfolding readFrame
-  said-regardless = rw (es, et) (go (sizeOk (z .width) (z .height)) (frame z b .answer))
+  said-regardless = rw (es, et) (go (sizeFits z) (frame z b .answer))
     where
       go : (c : Bool) (a : Answer)
           → (require c else refuse BadSize 0 (lentPair s) then readBy (area z) (frame z b) a s) .said
@@ -89,17 +89,17 @@ module _ (b : List ℕ) (z : Size) (lent : State) where
   unfolding readFrame
   pair-kept =
       by-test (λ c. Ok (require c else refuse BadSize 0 (lentPair lent) then require enough (area z) lent else refuse ShortSlice 0 (lentPair lent) then readBy (area z) (frame z b) (frame z b .answer) lent))
-      (sizeOk (z .width) (z .height))
+      (sizeFits z)
       (λ i. by-test (λ d. Ok (require d else refuse ShortSlice 0 (lentPair lent) then readBy (area z) (frame z b) (frame z b .answer) lent)) (enough (area z) lent)
       (λ e. go i e (frame z b .answer)) (λ e. same-pair)) (λ i. same-pair)
     where
       Ok : Outcome → Type 0
       Ok o = KeptPair b (area z) lent (o .memory .first)
 
-      go : sizeOk (z .width) (z .height) ≡ true → enough (area z) lent ≡ true → (a : Answer) → Ok (readBy (area z) (frame z b) a lent)
+      go : sizeFits z ≡ true → enough (area z) lent ≡ true → (a : Answer) → Ok (readBy (area z) (frame z b) a lent)
       go i e (Refused r at) = same-pair
       go i e Done =
-          let s = frame-sound z (size-in (z .width) (z .height) i .some-wide) b in
+          let s = frame-sound z (size-in z i .some-wide) b in
           let n = enough-in (area z) lent e in
           record {
             picture = kept-front (area z) (lent .picture) (frame z b .pixels) (n .0) (s .in-picture);
@@ -152,7 +152,7 @@ SaidIn b (refused n place) = place ≤ length b
 module _ (b : List ℕ) (z : Size) (lent : State) where
   pub place-within : (n place : ℕ) → readFrame b z lent .said ≡ refused n place → place ≤ length b
   unfolding readFrame
-  place-within n place e = subst (SaidIn b) e (go (sizeOk (z .width) (z .height)) (enough (area z) lent) (frame z b .answer) (frame-place z b))
+  place-within n place e = subst (SaidIn b) e (go (sizeFits z) (enough (area z) lent) (frame z b .answer) (frame-place z b))
     where
       go : (c d : Bool) (a : Answer) → PlaceIn b a
           → SaidIn b ((require c else refuse BadSize 0 (lentPair lent) then require d else refuse ShortSlice 0 (lentPair lent) then readBy (area z) (frame z b) a lent) .said)

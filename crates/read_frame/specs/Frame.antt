@@ -1,19 +1,21 @@
 -- A frame (document 01, "Frames, chunks and rows"): what its sub-chunks do, in file order.
 use Prim.Native.Nat.{ℕ, _+_}
 use mathlib.Core.List.{List, [], _∷_, _++_}
-use mathlib.Core.Bool.{cond}
+use mathlib.Core.Bool.{Bool, true, false, not, cond}
 use lib.ListN.{length, take}
 use lib.Dec.{eqb, leb}
 use Rattle.words.specs.Words.{require_else_then_, part}
 use Rattle.words.specs.Writes.{Write}
-use Rattle.format.specs.Format.{FLI-COLOR256, FLI-SS2, FLI-COLOR, FLI-LC, FLI-BLACK, FLI-BRUN, FLI-COPY}
+use Rattle.format.specs.Format.{FLI-COLOR256, FLI-SS2, FLI-COLOR, FLI-LC, FLI-BLACK, FLI-BRUN, FLI-COPY, FLI-PSTAMP}
 use Rattle.walk.specs.declared.Verdict.{Verdict}
 use Rattle.walk.specs.declared.Verdict.the-variants as verdict
-use Rattle.answer.specs.declared.Refusal.the-variants.{SpareBytes}
+use Rattle.answer.specs.declared.Refusal.the-variants.{SpareBytes, NotInFli}
 use Rattle.answer.specs.declared.Answer.{Answer}
 use Rattle.answer.specs.declared.Answer.the-variants.{Refused}
 use Rattle.walk.specs.Walk.{Walk}
 use Rattle.format.specs.Limits.{area}
+use Rattle.format.specs.declared.Format.{Format}
+use Rattle.format.specs.declared.Format.the-variants.{Flc, Fli}
 use Rattle.format.specs.declared.Size.{Size}
 use Rattle.read_colour.specs.Colour.{colour}
 use Rattle.read_colour.specs.declared.Levels.the-variants.{Of64, Of256}
@@ -50,8 +52,8 @@ abbrev pub skipped : List ℕ → ChunkWalk
 skipped b = record { pixels = []; colours = []; verdict = verdict.Ends (length b) }
 
 -- "Reading covers kinds 4, 7, 11, 12, 13, 15 and 16": the sub-chunk of a kind, with body b, in a frame of size z
-unfoldable pub subChunk : Size → ℕ → List ℕ → ChunkWalk
-subChunk z kind b =
+unfoldable pub byKind : Size → ℕ → List ℕ → ChunkWalk
+byKind z kind b =
     cond (eqb kind FLI-COLOR256) (onPalette (length b) (colour Of256 b))
     (cond (eqb kind FLI-SS2) (onPicture (length b) (ss2 (z .width) (z .height) b))
     (cond (eqb kind FLI-COLOR) (onPalette (length b) (colour Of64 b))
@@ -60,6 +62,20 @@ subChunk z kind b =
     (cond (eqb kind FLI-BRUN) (onPicture (length b) (brun (z .width) (z .height) b))
     (cond (eqb kind FLI-COPY) (onPicture (length b) (copied (area z) b))
     (skipped b)))))))
+
+-- an FLI has "no kinds 7 or 18" (document 02, Req 06)
+abbrev pub kindOk : Format → ℕ → Bool
+kindOk Flc kind = true
+kindOk Fli kind = cond (eqb kind FLI-SS2) false (not (eqb kind FLI-PSTAMP))
+
+-- a kind that has no place here: no write
+abbrev pub misplaced : ChunkWalk
+misplaced = record { pixels = []; colours = []; verdict = verdict.Fault NotInFli }
+
+-- the sub-chunk of a kind in a frame of its format: "kind 7 or 18 met is 20, as the sub-chunk's header is accepted", before its body
+unfoldable pub subChunk : Size → ℕ → List ℕ → ChunkWalk
+unfolding byKind
+subChunk z kind b = require kindOk (z .format) kind else misplaced then byKind z kind b
 
 -- What a frame says: the writes met before the first fault, in order, and the answer to it.
 pub record FrameWalk : Type 0 where

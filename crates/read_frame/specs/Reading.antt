@@ -3,7 +3,7 @@ use Prim.Native.Nat.{ℕ}
 use mathlib.Core.List.{List}
 use Rattle.words.specs.Words.{require_else_then_}
 use Rattle.words.specs.Writes.{applied}
-use Rattle.format.specs.Limits.{area, sizeOk}
+use Rattle.format.specs.Limits.{area, sizeFits}
 use Rattle.format.specs.declared.Size.{Size}
 use Rattle.answer.specs.Answer.{told}
 use Rattle.answer.specs.declared.Refusal.the-variants.{ShortSlice, BadSize}
@@ -31,6 +31,6 @@ readBy n f (Refused e place) lent = refuse e place (lentPair lent)
 unfoldable pub readFrame : List ℕ → Size → State → Outcome
 unfolding frame
 readFrame bytes size lent =
-    require sizeOk (size .width) (size .height) else refuse BadSize 0 (lentPair lent) then
+    require sizeFits size else refuse BadSize 0 (lentPair lent) then
     require enough (area size) lent else refuse ShortSlice 0 (lentPair lent) then
     readBy (area size) (frame size bytes) (frame size bytes .answer) lent

@@ -10,11 +10,12 @@ ghost use Rattle.state.specs.State.{state, Exact};
 ghost use Rattle.state.specs.Outcome.{lentPair, leaves};
 ghost use Rattle.walk.specs.Walk.{wrote, Room};
 ghost use Rattle.chunks.specs.Spans.{subSpans};
-ghost use Rattle.read_frame.specs.Frame.{judged, subChunk, subChunks, frame};
+ghost use Rattle.read_frame.specs.Frame.{judged, byKind, kindOk, subChunk, subChunks, frame};
 ghost use Rattle.read_frame.specs.Packets.{packetsIn, packetBytes};
 ghost use Rattle.read_frame.specs.Reading.{settled, readFrame};
 use chunks::CHUNK_HEADER;
 use chunks::FRAME_HEADER;
+use format::Format;
 use format::Size;
 
 // The bytes in packets from which on one pass is faster than two (docs/BENCH.md).
@@ -37,8 +38,8 @@ fn judge(verdict: walk::Verdict, size: usize) -> walk::Verdict
     }
 }
 
-// Walks over a sub-chunk's body.
-fn walk_chunk(
+// Walks over the body of a sub-chunk whose kind has its place here.
+fn walk_kind(
     picture: &mut [u8],
     palette: &mut [u8],
     kind: usize,
@@ -47,9 +48,9 @@ fn walk_chunk(
     pass: walk::Pass,
 ) -> walk::Verdict
     requires { ⌜ Sized (size .width) (size .height) × Room pass (area size) (now picture) × Room pass 768 (now palette) ⌝ }
-    ensures verdict { λ r. ⌜ r ≡ subChunk size kind (now (body .entry)) .verdict ⌝ }
-    ensures pixels { λ _. ⌜ now (picture .exit) ≡ wrote pass (subChunk size kind (now (body .entry)) .pixels) (now (picture .entry)) ⌝ }
-    ensures colours { λ _. ⌜ now (palette .exit) ≡ wrote pass (subChunk size kind (now (body .entry)) .colours) (now (palette .entry)) ⌝ }
+    ensures verdict { λ r. ⌜ r ≡ byKind size kind (now (body .entry)) .verdict ⌝ }
+    ensures pixels { λ _. ⌜ now (picture .exit) ≡ wrote pass (byKind size kind (now (body .entry)) .pixels) (now (picture .entry)) ⌝ }
+    ensures colours { λ _. ⌜ now (palette .exit) ≡ wrote pass (byKind size kind (now (body .entry)) .colours) (now (palette .entry)) ⌝ }
 {
     let length = body.len();
     match kind {
@@ -83,6 +84,42 @@ fn walk_chunk(
         ),
         _ => walk::Verdict::Ends(length),
     }
+}
+
+// Whether a kind has its place in frames of this format.
+fn kind_ok(format: Format, kind: usize) -> bool
+    ensures { λ r. ⌜ r ≡ kindOk format kind ⌝ }
+{
+    match format {
+        Format::Flc => true,
+        Format::Fli => {
+            if kind == format::FLI_SS2 {
+                return false;
+            }
+            kind != format::FLI_PSTAMP
+        }
+    }
+}
+
+// Walks over a sub-chunk.
+fn walk_chunk(
+    picture: &mut [u8],
+    palette: &mut [u8],
+    kind: usize,
+    body: &[u8],
+    size: Size,
+    pass: walk::Pass,
+) -> walk::Verdict
+    requires { ⌜ Sized (size .width) (size .height) × Room pass (area size) (now picture) × Room pass 768 (now palette) ⌝ }
+    ensures verdict { λ r. ⌜ r ≡ subChunk size kind (now (body .entry)) .verdict ⌝ }
+    ensures pixels { λ _. ⌜ now (picture .exit) ≡ wrote pass (subChunk size kind (now (body .entry)) .pixels) (now (picture .entry)) ⌝ }
+    ensures colours { λ _. ⌜ now (palette .exit) ≡ wrote pass (subChunk size kind (now (body .entry)) .colours) (now (palette .entry)) ⌝ }
+{
+    let format = size.format;
+    if !kind_ok(format, kind) {
+        return walk::Verdict::Fault(answer::Refusal::NotInFli);
+    }
+    walk_kind(picture, palette, kind, body, size, pass)
 }
 
 // Walks over count sub-chunks from offset 16 on.
@@ -306,7 +343,7 @@ pub fn read_frame(
     ensures { λ r. ⌜ leaves (told r) (lentPair (state (now (picture .exit)) (now (palette .exit))))
         ≡ readFrame (now (bytes .entry)) size (state (now (picture .entry)) (now (palette .entry))) ⌝ }
 {
-    if !format::size_ok(size.width, size.height) {
+    if !format::size_fits(size) {
         return answer::Answer::Refused(answer::Refusal::BadSize, 0);
     }
     let n = size.width * size.height;

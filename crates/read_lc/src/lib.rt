@@ -26,7 +26,8 @@ fn start_at(body: &[u8], at: usize) -> Start
     }
 }
 
-// Walks over the row at offset at, row row of the picture.
+// Walks over the row at offset at, row row of the picture. A row without packets, as an FLI's delta has for each row that stays, is done at
+// once.
 fn walk_row(
     picture: &mut [u8],
     body: &[u8],
@@ -42,6 +43,9 @@ fn walk_row(
     match start_at(body, at) {
         Start::Fault(e) => walk::Verdict::Fault(e),
         Start::Row { count, from } => {
+            if count == 0 {
+                return walk::Verdict::Ends(from);
+            }
             read_packets::walk_packets(picture, body, count, from, width, row, 1, pass)
         }
     }

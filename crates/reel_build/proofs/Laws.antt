@@ -8,32 +8,40 @@ use borrow.Author.Tests.{le-leb, lt-leb, leb-true, leb-false, ltb-true, ltb-fals
 use lib.Dec.{leb, ltb}
 use lib.ListN.{length, take, drop, length-drop, take-append-drop}
 use lib.Seq.{length-take-le, drop-drop, drop-append-le}
+use Rattle.words.specs.Words.{require_else_then_}
 use Rattle.words.specs.Writes.{put}
 use Rattle.words.proofs.Laws.{put-front, lent-back}
 use Rattle.words.proofs.Tests.{by-test, cond-holds, both-true}
-use Rattle.format.specs.Limits.{sizeOk, area, maxFrames}
+use Rattle.format.specs.Limits.{sizeFits, sizeOf, area, maxFrames}
+use Rattle.format.specs.declared.Format.the-variants.{Flc, Fli}
 use Rattle.format.specs.declared.Size.{Size}
+use Rattle.delay.specs.declared.Milliseconds.{Milliseconds}
+use Rattle.delay.specs.Delay.{jiffies}
 use Rattle.answer.specs.Answer.{Said, done, refused, number, told, toldWritten}
 use Rattle.answer.specs.declared.Refusal.{Refusal}
-use Rattle.answer.specs.declared.Refusal.the-variants.{ShortSlice, BadSize, NoRoom, Cut, WrongTime}
+use Rattle.answer.specs.declared.Refusal.the-variants.{ShortSlice, BadSize, NoRoom, Cut, BadHeader, WrongTime}
 use Rattle.answer.specs.declared.Written.{Written}
 use Rattle.answer.specs.declared.Written.the-variants.{Done, Refused}
 use Rattle.state.specs.State.{State, front, enough}
 use Rattle.state.specs.Outcome.{Memory, Outcome, lentBytes, leaves, refuse, fitted}
 use Rattle.house_frame.specs.House.{houseFrame}
 use Rattle.chunks.specs.Spans.{HEADER-BYTES}
-use Rattle.reel_header.specs.Written.{opened}
-use Rattle.reel_header.proofs.Laws.{opened-length}
+use Rattle.reel_header.specs.Written.{opened, openedFli}
 use Rattle.reel_build.specs.declared.Reel.{Reel}
 use Rattle.reel_build.specs.declared.Built.{Built}
-use Rattle.reel_build.specs.Record.{reelOf, noReel, refusedWith, builds, keeps}
-use Rattle.reel_build.specs.Building.{openReel, endOk, mostBytes, longest, fits, appended, added, addOk, addFrame}
+use Rattle.reel_build.specs.Record.{reelOf, noReel, newReel, refusedWith, builds, keeps}
+use Rattle.reel_build.specs.Building.{opening, openReel, openFli, endOk, mostBytes, longest, fits, appended, added, addOk, addFrame}
 
 -- a refusal leaves the memory m and the reel as they were
 
 pub refused-keeps : (x : Built) (r : Reel) (e : Refusal) (place : ℕ) → x ≡ refusedWith r e place → (m : Memory)
     → builds (x .reel) (leaves (told (x .answer)) m) ≡ keeps r e place m
 refused-keeps x r e place q m = ap (λ (y : Built). builds (y .reel) (leaves (told (y .answer)) m)) q
+
+-- where there is no reel yet
+pub refused-none : (x : Built) (r : Reel) (e : Refusal) (place : ℕ) → x ≡ refusedWith r e place → r ≡ noReel → (m : Memory)
+    → builds (x .reel) (leaves (told (x .answer)) m) ≡ keeps noReel e place m
+refused-none x r e place q n m = refused-keeps x r e place q m ∙ ap (λ (y : Reel). keeps y e place m) n
 
 -- longest
 
@@ -149,26 +157,32 @@ pub add-few : (frames : ℕ) (closed : Bool) → addOk frames closed ≡ true �
 add-few frames true e = let z : _≡_ {A = ℕ} 0 1 = cc in absurd (omega arith)
 add-few frames false e = (refl, ltb-true frames maxFrames e)
 
--- openReel
+-- openReel, openFli
 
-module _ (z : Size) (speed : ℕ) (b : List ℕ) where
-  pub open-size : sizeOk (z .width) (z .height) ≡ false → openReel z speed b ≡ keeps noReel BadSize 0 (lentBytes b)
+module _ (z : Size) (h b : List ℕ) where
+  pub opening-short : length b < HEADER-BYTES → opening z h b ≡ keeps noReel NoRoom 0 (lentBytes b)
+  opening-short k = rw (lt-leb HEADER-BYTES (length b) k)
+
+  -- x: what the first 128 bytes come back as; r: what the call gives
+  pub opening-done : length h ≡ HEADER-BYTES → HEADER-BYTES ≤ length b → (x : List ℕ) → x ≡ h → (r : Built) → r ≡ newReel z
+      → builds (r .reel) (leaves (told (r .answer)) (lentBytes (x ++ drop HEADER-BYTES b))) ≡ opening z h b
+  opening-done l k x i r n =
+      ap₂ (λ (y : Built) (d : List ℕ). builds (y .reel) (leaves (told (y .answer)) (lentBytes d))) n (lent-back b x h 0 HEADER-BYTES i l)
+      ∙ rw (le-leb HEADER-BYTES (length b) k)
+
+-- each test as it came out
+module _ (w h : ℕ) (b : List ℕ) (t : Bool) where
+  pub open-is : (speed : Milliseconds) → sizeFits (sizeOf Flc w h) ≡ t
+      → (require t else keeps noReel BadSize 0 (lentBytes b) then opening (sizeOf Flc w h) (opened w h speed) b) ≡ openReel w h speed b
   unfolding openReel
-  open-size e = rw e
+  open-is speed e = rw (sym e)
 
-  module _ (e : sizeOk (z .width) (z .height) ≡ true) where
-    pub open-short : length b < HEADER-BYTES → openReel z speed b ≡ keeps noReel NoRoom 0 (lentBytes b)
-    unfolding openReel
-    open-short k = rw (e, lt-leb HEADER-BYTES (length b) k)
-
-    -- x: what the first 128 bytes come back as
-    pub open-done : HEADER-BYTES ≤ length b → (x : List ℕ) → x ≡ opened (z .width) (z .height) speed
-        → builds (reelOf z 0 HEADER-BYTES false) (leaves (done []) (lentBytes (x ++ drop HEADER-BYTES b))) ≡ openReel z speed b
-    unfolding openReel
-    open-done k x i =
-        ap (λ (y : List ℕ). builds (reelOf z 0 HEADER-BYTES false) (leaves (done []) (lentBytes y)))
-        (lent-back b x (opened (z .width) (z .height) speed) 0 HEADER-BYTES i (opened-length (z .width) (z .height) speed))
-        ∙ rw (e, le-leb HEADER-BYTES (length b) k)
+  pub open-fli-is : (delay : ℕ) (u : Bool) → sizeFits (sizeOf Fli w h) ≡ t → leb delay 65535 ≡ u
+      → (require t else keeps noReel BadSize 0 (lentBytes b) then
+      require u else keeps noReel BadHeader 0 (lentBytes b) then
+      opening (sizeOf Fli w h) (openedFli w h (jiffies delay)) b) ≡ openFli w h delay b
+  unfolding openFli
+  open-fli-is delay u e k = rw (sym e, sym k)
 
 -- addFrame
 
@@ -178,11 +192,11 @@ module _ (r : Reel) (b : List ℕ) (s t : State) where
   add-closed e = rw e
 
   module _ (e : addOk (r .frames) (r .closed) ≡ true) where
-    pub add-size : sizeOk (r .size .width) (r .size .height) ≡ false → addFrame r b s t ≡ keeps r BadSize 0 (lentBytes b)
+    pub add-size : sizeFits (r .size) ≡ false → addFrame r b s t ≡ keeps r BadSize 0 (lentBytes b)
     unfolding addFrame
     add-size i = rw (e, i)
 
-    module _ (i : sizeOk (r .size .width) (r .size .height) ≡ true) where
+    module _ (i : sizeFits (r .size) ≡ true) where
       pub add-short : enough (area (r .size)) s ≡ false → addFrame r b s t ≡ keeps r ShortSlice 0 (lentBytes b)
       unfolding addFrame
       add-short j = rw (e, i, j)
@@ -200,7 +214,7 @@ module _ (r : Reel) (b : List ℕ) (s t : State) where
 -- an add that has passed every check but the last
 pub record Passed (r : Reel) (b : List ℕ) (s t : State) : Type 0 where
   pub taken : addOk (r .frames) (r .closed) ≡ true
-  pub sized : sizeOk (r .size .width) (r .size .height) ≡ true
+  pub sized : sizeFits (r .size) ≡ true
   pub shown : enough (area (r .size)) s ≡ true
   pub next : enough (area (r .size)) t ≡ true
   pub ended : endOk (r .end) (length b) ≡ true

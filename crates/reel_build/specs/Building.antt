@@ -6,25 +6,41 @@ use lib.Dec.{leb, ltb}
 use lib.ListN.{length}
 use Rattle.words.specs.Words.{require_else_then_}
 use Rattle.words.specs.Writes.{put}
-use Rattle.format.specs.Limits.{sizeOk, area, maxFrames}
+use Rattle.format.specs.Limits.{sizeFits, sizeOf, area, maxFrames}
+use Rattle.format.specs.declared.Format.the-variants.{Flc, Fli}
+use Rattle.delay.specs.declared.Milliseconds.{Milliseconds}
+use Rattle.delay.specs.Delay.{jiffies}
 use Rattle.format.specs.declared.Size.{Size}
 use Rattle.answer.specs.Answer.{done}
-use Rattle.answer.specs.declared.Refusal.the-variants.{ShortSlice, BadSize, NoRoom, Cut, WrongTime}
+use Rattle.answer.specs.declared.Refusal.the-variants.{ShortSlice, BadSize, NoRoom, Cut, BadHeader, WrongTime}
 use Rattle.state.specs.State.{State, front, enough}
 use Rattle.state.specs.Outcome.{Outcome, lentBytes, leaves, refuse}
 use Rattle.house_frame.specs.House.{houseFrame}
 use Rattle.chunks.specs.Spans.{HEADER-BYTES}
-use Rattle.reel_header.specs.Written.{opened}
+use Rattle.reel_header.specs.Written.{opened, openedFli}
 use Rattle.reel_build.specs.declared.Reel.{Reel}
 use Rattle.reel_build.specs.Record.{reelOf, noReel, ReelOutcome, builds, keeps}
 
--- "Writing: .. 2, .. 3": the header at the front of the lent bytes
-unfoldable pub openReel : Size → ℕ → List ℕ → ReelOutcome
-unfolding opened
-openReel size speed bytes =
-    require sizeOk (size .width) (size .height) else keeps noReel BadSize 0 (lentBytes bytes) then
+-- the header h at the front of the lent bytes, for pictures of size z: 3 where there is no room
+abbrev pub opening : Size → List ℕ → List ℕ → ReelOutcome
+opening z h bytes =
     require leb HEADER-BYTES (length bytes) else keeps noReel NoRoom 0 (lentBytes bytes) then
-    builds (reelOf size 0 HEADER-BYTES false) (leaves (done []) (lentBytes (put bytes 0 (opened (size .width) (size .height) speed))))
+    builds (reelOf z 0 HEADER-BYTES false) (leaves (done []) (lentBytes (put bytes 0 h)))
+
+-- "Writing: .. 2, .. 3"
+unfoldable pub openReel : ℕ → ℕ → Milliseconds → List ℕ → ReelOutcome
+unfolding opened
+openReel w h speed bytes =
+    require sizeFits (sizeOf Flc w h) else keeps noReel BadSize 0 (lentBytes bytes) then
+    opening (sizeOf Flc w h) (opened w h speed) bytes
+
+-- an FLI (document 02, Req 06): "size not 320 by 200 is 2 ..; jiffies over 65,535 is 14, after 2"
+unfoldable pub openFli : ℕ → ℕ → ℕ → List ℕ → ReelOutcome
+unfolding openedFli
+openFli w h delay bytes =
+    require sizeFits (sizeOf Fli w h) else keeps noReel BadSize 0 (lentBytes bytes) then
+    require leb delay 65535 else keeps noReel BadHeader 0 (lentBytes bytes) then
+    opening (sizeOf Fli w h) (openedFli w h (jiffies delay)) bytes
 
 -- refusal 4: "An add or close whose record ends before 128 or past the lent bytes"
 abbrev pub endOk : ℕ → ℕ → Bool
@@ -63,7 +79,7 @@ unfoldable pub addFrame : Reel → List ℕ → State → State → ReelOutcome
 unfolding houseFrame
 addFrame reel bytes shown next =
     require addOk (reel .frames) (reel .closed) else keeps reel WrongTime 0 (lentBytes bytes) then
-    require sizeOk (reel .size .width) (reel .size .height) else keeps reel BadSize 0 (lentBytes bytes) then
+    require sizeFits (reel .size) else keeps reel BadSize 0 (lentBytes bytes) then
     require enough (area (reel .size)) shown && enough (area (reel .size)) next else keeps reel ShortSlice 0 (lentBytes bytes) then
     require endOk (reel .end) (length bytes) else keeps reel Cut 0 (lentBytes bytes) then
     added reel (houseFrame (reel .size) (front (area (reel .size)) shown) (front (area (reel .size)) next)) bytes

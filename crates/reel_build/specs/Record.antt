@@ -2,20 +2,26 @@
 use Prim.Native.Nat.{ℕ}
 use mathlib.Core.Bool.{Bool, false}
 use Rattle.format.specs.Limits.{sizeOf}
+use Rattle.format.specs.declared.Format.the-variants.{Flc}
 use Rattle.format.specs.declared.Size.{Size}
 use Rattle.answer.specs.declared.Refusal.{Refusal}
-use Rattle.answer.specs.declared.Answer.the-variants.{Refused}
+use Rattle.answer.specs.declared.Answer.the-variants.{Done, Refused}
+use Rattle.chunks.specs.Spans.{HEADER-BYTES}
 use Rattle.state.specs.Outcome.{Memory, Outcome, refuse}
 use Rattle.reel_build.specs.declared.Reel.{Reel}
 use Rattle.reel_build.specs.declared.Built.{Built}
 
--- a record: the picture's size, how many frames were added, where the last of them ends, and whether the reel is closed
+-- a record: the picture's size and the format, how many frames were added, where the last of them ends, and whether the reel is closed
 abbrev pub reelOf : Size → ℕ → ℕ → Bool → Reel
 reelOf size frames end closed = record { size = size; frames = frames; end = end; closed = closed }
 
 -- what a refused open gives: zeros
 abbrev pub noReel : Reel
-noReel = reelOf (sizeOf 0 0) 0 0 false
+noReel = reelOf (sizeOf Flc 0 0) 0 0 false
+
+-- what an open gives that is done
+abbrev pub newReel : Size → Built
+newReel size = record { answer = Done; reel = reelOf size 0 HEADER-BYTES false }
 
 -- what a call gives that is refused, of the reel r
 abbrev pub refusedWith : Reel → Refusal → ℕ → Built

@@ -6,12 +6,15 @@ ghost use Rattle.answer.specs.Answer.{told, toldWritten};
 ghost use Rattle.state.specs.State.{state, Exact};
 ghost use Rattle.state.specs.Outcome.{lentBytes, leaves};
 ghost use Rattle.house_frame.specs.House.{houseFrame};
-ghost use Rattle.reel_build.specs.Record.{refusedWith, builds};
-ghost use Rattle.reel_build.specs.Building.{openReel, endOk, longest, appended, addOk, addFrame};
+ghost use Rattle.reel_build.specs.Record.{noReel, newReel, refusedWith, builds};
+ghost use Rattle.reel_build.specs.Building.{openReel, openFli, endOk, longest, appended, addOk, addFrame};
 use answer::Answer;
 use answer::Refusal;
 use answer::Written;
 use chunks::HEADER_BYTES;
+use delay::Jiffies;
+use delay::Milliseconds;
+use format::Format;
 use format::PALETTE_BYTES;
 use format::Size;
 use state::holds;
@@ -43,31 +46,26 @@ pub fn refused(reel: Reel, e: Refusal, place: usize) -> Built
     }
 }
 
-// Opens a reel at the front of the lent bytes.
-pub fn open_reel(size: Size, speed: u32, bytes: &mut [u8]) -> Built
-    ensures { λ r. ⌜ builds (r .reel) (leaves (told (r .answer)) (lentBytes (now (bytes .exit)))) ≡ openReel size speed (now (bytes .entry)) ⌝ }
+// No reel.
+fn no_reel() -> Reel
+    ensures { λ r. ⌜ r ≡ noReel ⌝ }
 {
-    let none = Reel {
+    Reel {
         size: Size {
             width: 0,
             height: 0,
+            format: Format::Flc,
         },
         frames: 0,
         end: 0,
         closed: false,
-    };
-    if !format::size_ok(size.width, size.height) {
-        return refused(none, Refusal::BadSize, 0);
     }
-    if bytes.len() < HEADER_BYTES {
-        return refused(none, Refusal::NoRoom, 0);
-    }
-    reel_header::write_header(
-        &mut bytes[0..HEADER_BYTES],
-        size.width,
-        size.height,
-        speed as usize,
-    );
+}
+
+// A reel with no frame yet.
+fn new_reel(size: Size) -> Built
+    ensures { λ r. ⌜ r ≡ newReel size ⌝ }
+{
     Built {
         answer: Answer::Done,
         reel: Reel {
@@ -77,6 +75,52 @@ pub fn open_reel(size: Size, speed: u32, bytes: &mut [u8]) -> Built
             closed: false,
         },
     }
+}
+
+// Opens an FLC at the front of the lent bytes.
+pub fn open_reel(width: usize, height: usize, speed: Milliseconds, bytes: &mut [u8]) -> Built
+    ensures { λ r. ⌜ builds (r .reel) (leaves (told (r .answer)) (lentBytes (now (bytes .exit)))) ≡ openReel width height speed (now (bytes .entry)) ⌝ }
+{
+    let size = Size {
+        width,
+        height,
+        format: Format::Flc,
+    };
+    if !format::size_fits(size) {
+        return refused(no_reel(), Refusal::BadSize, 0);
+    }
+    if bytes.len() < HEADER_BYTES {
+        return refused(no_reel(), Refusal::NoRoom, 0);
+    }
+    reel_header::write_header(&mut bytes[0..HEADER_BYTES], width, height, speed);
+    new_reel(size)
+}
+
+// Opens an FLI at the front of the lent bytes.
+pub fn open_fli(width: usize, height: usize, delay: u32, bytes: &mut [u8]) -> Built
+    ensures { λ r. ⌜ builds (r .reel) (leaves (told (r .answer)) (lentBytes (now (bytes .exit)))) ≡ openFli width height delay (now (bytes .entry)) ⌝ }
+{
+    let size = Size {
+        width,
+        height,
+        format: Format::Fli,
+    };
+    if !format::size_fits(size) {
+        return refused(no_reel(), Refusal::BadSize, 0);
+    }
+    if delay > 65535 {
+        return refused(no_reel(), Refusal::BadHeader, 0);
+    }
+    if bytes.len() < HEADER_BYTES {
+        return refused(no_reel(), Refusal::NoRoom, 0);
+    }
+    reel_header::write_fli_header(
+        &mut bytes[0..HEADER_BYTES],
+        width,
+        height,
+        Jiffies(delay as u16),
+    );
+    new_reel(size)
 }
 
 // Whether a record's end lies within so many lent bytes.
@@ -156,7 +200,7 @@ pub fn add_frame(
     if !add_ok(reel.frames, reel.closed) {
         return refused(reel, Refusal::WrongTime, 0);
     }
-    if !format::size_ok(size.width, size.height) {
+    if !format::size_fits(size) {
         return refused(reel, Refusal::BadSize, 0);
     }
     let n = size.width * size.height;

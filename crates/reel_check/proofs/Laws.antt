@@ -2,10 +2,12 @@
 use mathlib.Core.Path.{_≡_, sym, ap, ap₂, _∙_}
 use mathlib.Core.List.{List}
 use mathlib.Core.Bool.{Bool, true, false, _&&_, cond}
-use Prim.Native.Nat.{ℕ, _*_}
+use Prim.Native.Nat.{ℕ}
 use lib.ListN.{take}
 use Rattle.words.specs.Words.{same}
-use Rattle.format.specs.Limits.{sizeOf}
+use Rattle.format.specs.Limits.{area}
+use Rattle.format.specs.declared.Size.{Size}
+use Rattle.delay.specs.declared.Milliseconds.{Milliseconds}
 use Rattle.answer.specs.Answer.{told}
 use Rattle.answer.specs.declared.Refusal.{Refusal}
 use Rattle.answer.specs.declared.Refusal.the-variants.{ShortSlice, BadRing}
@@ -15,6 +17,7 @@ use Rattle.state.specs.State.{State, enough, refilled}
 use Rattle.state.specs.Outcome.{lentPairs, leaves, refuse}
 use Rattle.chunks.specs.declared.Layout.the-variants.{Loose}
 use Rattle.reel_header.specs.Head.{headOf}
+use Rattle.reel_header.specs.declared.Takes.the-variants.{Both}
 use Rattle.reel_header.specs.declared.Head.{Head}
 use Rattle.reel_header.specs.declared.Head.the-variants as head
 use Rattle.reel_play.specs.declared.Ran.{Ran}
@@ -40,31 +43,31 @@ ring-told x y e a q = (sym q ∙ ap ringAnswer e, (ap (λ (z : Shown). z .last) 
 -- the check of a reel
 
 module _ (b : List ℕ) (first second : State) where
-  pub check-fault : (e : Refusal) → headOf b ≡ head.Fault e → checkReel b first second ≡ refuse e 0 (lentPairs first second)
+  pub check-fault : (e : Refusal) → headOf Both b ≡ head.Fault e → checkReel b first second ≡ refuse e 0 (lentPairs first second)
   unfolding checkReel
   check-fault e k = ap (λ (x : Head). afterHead b x first second) k
 
-  module _ (w h count size speed : ℕ) (k : headOf b ≡ head.Reel w h count size speed) where
-    pub check-short : enough (w * h) first ≡ false → checkReel b first second ≡ refuse ShortSlice 0 (lentPairs first second)
+  module _ (z : Size) (count size : ℕ) (speed : Milliseconds) (k : headOf Both b ≡ head.Reel z count size speed) where
+    pub check-short : enough (area z) first ≡ false → checkReel b first second ≡ refuse ShortSlice 0 (lentPairs first second)
     unfolding checkReel
     check-short i = ap (λ (x : Head). afterHead b x first second) k ∙ rw i
 
-    pub check-second-short : enough (w * h) first ≡ true → enough (w * h) second ≡ false → checkReel b first second ≡ refuse ShortSlice 0 (lentPairs first second)
+    pub check-second-short : enough (area z) first ≡ true → enough (area z) second ≡ false → checkReel b first second ≡ refuse ShortSlice 0 (lentPairs first second)
     unfolding checkReel
     check-second-short i j = ap (λ (x : Head). afterHead b x first second) k ∙ rw (i, j)
 
-    pub check-played : enough (w * h) first ≡ true → enough (w * h) second ≡ true
-        → checkReel b first second ≡ checkedBy (w * h) (playAll Loose count (sizeOf w h) (take size b)) first second
+    pub check-played : enough (area z) first ≡ true → enough (area z) second ≡ true
+        → checkReel b first second ≡ checkedBy (area z) (playAll Loose count z (take size b)) first second
     unfolding checkReel
     check-played i j = ap (λ (x : Head). afterHead b x first second) k ∙ rw (i, j)
 
-    -- the pairs' fronts hold the states that playing gave; m and n: the lengths of the ranges up to w * h and up to size
-    pub check-laid : enough (w * h) first ≡ true → enough (w * h) second ≡ true → (m n : ℕ) → m ≡ w * h → n ≡ size → (a : Answer) (s t : State)
-        → let x = playAll Loose count (sizeOf w h) (take n b) in a ≡ ringAnswer x → s ≡ x .last → t ≡ x .one
+    -- the pairs' fronts hold the states that playing gave; m and n: the lengths of the ranges up to the area and up to size
+    pub check-laid : enough (area z) first ≡ true → enough (area z) second ≡ true → (m n : ℕ) → m ≡ area z → n ≡ size → (a : Answer) (s t : State)
+        → let x = playAll Loose count z (take n b) in a ≡ ringAnswer x → s ≡ x .last → t ≡ x .one
         → leaves (told a) (lentPairs (refilled m s first) (refilled m t second)) ≡ checkReel b first second
     check-laid i j m n em en a s t ea es et =
         ap (λ (l : ℕ). leaves (told a) (lentPairs (refilled l s first) (refilled l t second))) em
-        ∙ ap₂ (λ (u v : State). leaves (told a) (lentPairs (refilled (w * h) u first) (refilled (w * h) v second))) es et
-        ∙ ap (λ (y : Answer). leaves (told y) (lentPairs (refilled (w * h) (playAll Loose count (sizeOf w h) (take n b) .last) first) (refilled (w * h) (playAll Loose count (sizeOf w h) (take n b) .one) second))) ea
-        ∙ ap (λ (l : ℕ). checkedBy (w * h) (playAll Loose count (sizeOf w h) (take l b)) first second) en
+        ∙ ap₂ (λ (u v : State). leaves (told a) (lentPairs (refilled (area z) u first) (refilled (area z) v second))) es et
+        ∙ ap (λ (y : Answer). leaves (told y) (lentPairs (refilled (area z) (playAll Loose count z (take n b) .last) first) (refilled (area z) (playAll Loose count z (take n b) .one) second))) ea
+        ∙ ap (λ (l : ℕ). checkedBy (area z) (playAll Loose count z (take l b)) first second) en
         ∙ sym (check-played i j)

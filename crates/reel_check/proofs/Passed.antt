@@ -2,13 +2,15 @@
 use mathlib.Core.Path.{_≡_, refl, sym, ap, ap₂, _∙_}
 use mathlib.Core.List.{List, []}
 use mathlib.Core.Bool.{Bool, true, false, _&&_, cond}
-use Prim.Native.Nat.{ℕ, _*_}
+use Prim.Native.Nat.{ℕ}
 use native.Mathlib.Omega.{arith}
 use lib.ListN.{take}
 use Rattle.words.specs.Words.{same}
 use Rattle.words.proofs.Laws.{same-eq}
 use Rattle.words.proofs.Tests.{both-true}
-use Rattle.format.specs.Limits.{sizeOf}
+use Rattle.format.specs.Limits.{area}
+use Rattle.format.specs.declared.Size.{Size}
+use Rattle.delay.specs.declared.Milliseconds.{Milliseconds}
 use Rattle.answer.specs.Answer.{Said, done, told}
 use Rattle.answer.specs.declared.Refusal.the-variants.{BadRing}
 use Rattle.answer.specs.declared.Answer.{Answer}
@@ -19,6 +21,7 @@ use Rattle.state.specs.State.{State, state, enough, refilled}
 use Rattle.state.specs.Outcome.{Outcome, lentPairs, leaves}
 use Rattle.chunks.specs.declared.Layout.the-variants.{Loose}
 use Rattle.reel_header.specs.Head.{headOf}
+use Rattle.reel_header.specs.declared.Takes.the-variants.{Both}
 use Rattle.reel_header.specs.declared.Head.{Head}
 use Rattle.reel_header.specs.declared.Head.the-variants as head
 use Rattle.reel_play.specs.Play.{Shown, shown, playAll}
@@ -45,27 +48,25 @@ came (To ring end) s t e =
 
 module _ (b : List ℕ) (first second : State) where
   pub record CheckPassed (o : Outcome) : Type 0 where
-    pub width : ℕ
-    pub height : ℕ
+    pub picture : Size
     pub count : ℕ
     pub size : ℕ
-    pub speed : ℕ
-    pub header : headOf b ≡ head.Reel width height count size speed
-    pub played : Came (playAll Loose count (sizeOf width height) (take size b))
-    pub pairs : let one = playAll Loose count (sizeOf width height) (take size b) .one in
-        o ≡ leaves (done []) (lentPairs (refilled (width * height) one first) (refilled (width * height) one second))
+    pub speed : Milliseconds
+    pub header : headOf Both b ≡ head.Reel picture count size speed
+    pub played : Came (playAll Loose count picture (take size b))
+    pub pairs : let one = playAll Loose count picture (take size b) .one in
+        o ≡ leaves (done []) (lentPairs (refilled (area picture) one first) (refilled (area picture) one second))
 
-  passed-by : (x : Head) → headOf b ≡ x → afterHead b x first second .said ≡ done [] → CheckPassed (afterHead b x first second)
+  passed-by : (x : Head) → headOf Both b ≡ x → afterHead b x first second .said ≡ done [] → CheckPassed (afterHead b x first second)
   passed-by (head.Fault r) is e = let z : _≡_ {A = ℕ} 0 1 = cc in absurd (omega arith)
-  passed-by (head.Reel w h count size speed) is e =
+  passed-by (head.Reel z count size speed) is e =
       let said : Outcome → Said = λ o. o .said in
-      let x = playAll Loose count (sizeOf w h) (take size b) in
-      let k = passed said (enough (w * h) first && enough (w * h) second) {o = afterHead b (head.Reel w h count size speed) first second} refl e refl in
+      let x = playAll Loose count z (take size b) in
+      let k = passed said (enough (area z) first && enough (area z) second) {o = afterHead b (head.Reel z count size speed) first second} refl e refl in
       let a = told-injective (ringAnswer x) Done (ap said (k .1) ∙ e) in
       let c = came (x .result) (x .last) (x .one) a in
       record {
-        width = w;
-        height = h;
+        picture = z;
         count = count;
         size = size;
         speed = speed;
@@ -73,9 +74,9 @@ module _ (b : List ℕ) (first second : State) where
         played = c;
         pairs =
             sym (k .1)
-            ∙ ap₂ (λ (u : Answer) (s : State). leaves (told u) (lentPairs (refilled (w * h) s first) (refilled (w * h) (x .one) second))) a (c .same);
+            ∙ ap₂ (λ (u : Answer) (s : State). leaves (told u) (lentPairs (refilled (area z) s first) (refilled (area z) (x .one) second))) a (c .same);
       }
 
   pub check-passed : checkReel b first second .said ≡ done [] → CheckPassed (checkReel b first second)
   unfolding checkReel
-  check-passed e = passed-by (headOf b) refl e
+  check-passed e = passed-by (headOf Both b) refl e

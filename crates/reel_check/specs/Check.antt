@@ -1,10 +1,10 @@
 -- The check of a whole reel: the answer, and what both working pairs hold afterwards.
-use Prim.Native.Nat.{ℕ, _*_}
+use Prim.Native.Nat.{ℕ}
 use mathlib.Core.List.{List}
 use mathlib.Core.Bool.{_&&_}
 use lib.ListN.{take}
 use Rattle.words.specs.Words.{require_else_then_, same}
-use Rattle.format.specs.Limits.{sizeOf}
+use Rattle.format.specs.Limits.{area}
 use Rattle.answer.specs.Answer.{told}
 use Rattle.answer.specs.declared.Refusal.the-variants.{ShortSlice, BadRing}
 use Rattle.answer.specs.declared.Answer.{Answer}
@@ -13,6 +13,7 @@ use Rattle.state.specs.State.{State, enough, refilled}
 use Rattle.state.specs.Outcome.{Outcome, lentPairs, leaves, refuse}
 use Rattle.chunks.specs.declared.Layout.the-variants.{Loose}
 use Rattle.reel_header.specs.Head.{headOf}
+use Rattle.reel_header.specs.declared.Takes.the-variants.{Both}
 use Rattle.reel_header.specs.declared.Head.{Head}
 use Rattle.reel_header.specs.declared.Head.the-variants.{Fault, Reel}
 use Rattle.reel_play.specs.declared.Ran.{Ran}
@@ -37,10 +38,10 @@ checkedBy n x first second = leaves (told (ringAnswer x)) (lentPairs (refilled n
 -- "2, 14, 1, then chunks from the front"; "frames + 1 are read, the last being the ring; what follows up to the size is ignored"
 abbrev pub afterHead : List ℕ → Head → State → State → Outcome
 afterHead b (Fault e) first second = refuse e 0 (lentPairs first second)
-afterHead b (Reel w h count size speed) first second =
-    require enough (w * h) first && enough (w * h) second else refuse ShortSlice 0 (lentPairs first second) then
-    checkedBy (w * h) (playAll Loose count (sizeOf w h) (take size b)) first second
+afterHead b (Reel z count size speed) first second =
+    require enough (area z) first && enough (area z) second else refuse ShortSlice 0 (lentPairs first second) then
+    checkedBy (area z) (playAll Loose count z (take size b)) first second
 
 unfoldable pub checkReel : List ℕ → State → State → Outcome
 unfolding headOf playAll
-checkReel bytes first second = afterHead bytes (headOf bytes) first second
+checkReel bytes first second = afterHead bytes (headOf Both bytes) first second

@@ -17,6 +17,7 @@ use chunks::Layout;
 use format::PALETTE_BYTES;
 use format::Size;
 use reel_header::Head;
+use reel_header::Takes;
 use reel_play::Ran;
 
 // Whether two pairs hold the same state.
@@ -76,16 +77,15 @@ pub fn check_reel(
     ensures { λ r. ⌜ leaves (told r) (lentPairs (state (now («first_picture» .exit)) (now («first_palette» .exit))) (state (now («second_picture» .exit)) (now («second_palette» .exit))))
         ≡ checkReel (now (bytes .entry)) (state (now («first_picture» .entry)) (now («first_palette» .entry))) (state (now («second_picture» .entry)) (now («second_palette» .entry))) ⌝ }
 {
-    match reel_header::head_of(bytes) {
+    match reel_header::head_of(Takes::Both, bytes) {
         Head::Fault(e) => Answer::Refused(e, 0),
         Head::Reel {
-            width,
-            height,
+            picture,
             frames,
             size,
             speed: _,
         } => {
-            let n = width * height;
+            let n = picture.width * picture.height;
             if !state::holds(first_picture.len(), first_palette.len(), n) {
                 return Answer::Refused(Refusal::ShortSlice, 0);
             }
@@ -99,7 +99,7 @@ pub fn check_reel(
                 &mut second_palette[0..PALETTE_BYTES],
                 &bytes[0..size],
                 frames,
-                Size { width, height },
+                picture,
             )
         }
     }

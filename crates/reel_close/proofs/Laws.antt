@@ -9,7 +9,7 @@ use lib.Dec.{leb}
 use lib.ListN.{length, take}
 use Rattle.words.specs.Writes.{put}
 use Rattle.words.proofs.Tests.{both-true}
-use Rattle.format.specs.Limits.{sizeOk, area, maxFrames}
+use Rattle.format.specs.Limits.{sizeFits, area, maxFrames}
 use Rattle.format.specs.declared.Size.{Size}
 use Rattle.answer.specs.Answer.{Said, done, toldWritten}
 use Rattle.answer.specs.declared.Refusal.{Refusal}
@@ -38,13 +38,13 @@ use Rattle.reel_close.specs.Closing.{ownPlaying, ringWritten, ringAfter,
 -- a: the answer about the ring put there; x: the bytes with it
 module _ (r : Reel) (f b : List ℕ) (a : Written) (x : List ℕ) (o : leaves (toldWritten a) (lentBytes x) ≡ appended (r .end) f b) where
   -- y: the bytes with the header closed too
-  pub ring-done : (n : ℕ) → a ≡ Done n → (second : ℕ) (y : List ℕ) → second ≡ secondAt b → y ≡ closedHeader n (r .frames) second x
+  pub ring-done : (n : ℕ) → a ≡ Done n → (second : ℕ) (y : List ℕ) → second ≡ secondAt b → y ≡ closedHeader (r .size .format) n (r .frames) second x
       → builds (reelOf (r .size) (r .frames) n true) (leaves (done []) (lentBytes y)) ≡ ringWritten r f b
   ring-done n q second y s e =
       let t = append-done (r .end) f b a x o n q in
       ap₂ (λ (m : ℕ) (z : List ℕ). builds (reelOf (r .size) (r .frames) m true) (leaves (done []) (lentBytes z))) (t .1)
-      (e ∙ ap₂ (λ (m : ℕ) (z : List ℕ). closedHeader m (r .frames) second z) (t .1) (t .2)
-      ∙ ap (λ (k : ℕ). closedHeader (r .end + length f) (r .frames) k (put b (r .end) f)) s)
+      (e ∙ ap₂ (λ (m : ℕ) (z : List ℕ). closedHeader (r .size .format) m (r .frames) second z) (t .1) (t .2)
+      ∙ ap (λ (k : ℕ). closedHeader (r .size .format) (r .end + length f) (r .frames) k (put b (r .end) f)) s)
       ∙ rw (t .0)
 
   pub ring-refused : (e : Refusal) (place : ℕ) → a ≡ Refused e place → keeps r e place (lentBytes x) ≡ ringWritten r f b
@@ -106,11 +106,11 @@ module _ (r : Reel) (b : List ℕ) (first second : State) where
   close-time e = rw e
 
   module _ (e : closeOk (r .frames) (r .closed) ≡ true) where
-    pub close-size : sizeOk (r .size .width) (r .size .height) ≡ false → closeReel r b first second ≡ keeps r BadSize 0 (lentBytesPairs b first second)
+    pub close-size : sizeFits (r .size) ≡ false → closeReel r b first second ≡ keeps r BadSize 0 (lentBytesPairs b first second)
     unfolding closeReel
     close-size i = rw (e, i)
 
-    module _ (i : sizeOk (r .size .width) (r .size .height) ≡ true) where
+    module _ (i : sizeFits (r .size) ≡ true) where
       pub close-short : enough (area (r .size)) first ≡ false → closeReel r b first second ≡ keeps r ShortSlice 0 (lentBytesPairs b first second)
       unfolding closeReel
       close-short j = rw (e, i, j)
@@ -123,7 +123,7 @@ module _ (r : Reel) (b : List ℕ) (first second : State) where
 -- a close that has passed the checks up to 1
 pub record Passed (r : Reel) (first second : State) : Type 0 where
   pub taken : closeOk (r .frames) (r .closed) ≡ true
-  pub sized : sizeOk (r .size .width) (r .size .height) ≡ true
+  pub sized : sizeFits (r .size) ≡ true
   pub first-long : enough (area (r .size)) first ≡ true
   pub second-long : enough (area (r .size)) second ≡ true
 

@@ -6,7 +6,7 @@ use lib.Dec.{leb}
 use lib.ListN.{length, take}
 use Rattle.words.specs.Words.{require_else_then_}
 use Rattle.words.specs.Writes.{put}
-use Rattle.format.specs.Limits.{sizeOk, area, maxFrames}
+use Rattle.format.specs.Limits.{sizeFits, area, maxFrames}
 use Rattle.answer.specs.Answer.{done}
 use Rattle.answer.specs.declared.Refusal.the-variants.{ShortSlice, BadSize, NoRoom, Cut, WrongTime}
 use Rattle.state.specs.State.{State, blank, enough, refilled}
@@ -34,7 +34,7 @@ abbrev pub ringWritten : Reel → List ℕ → List ℕ → ReelOutcome
 ringWritten r f b =
     require fits (r .end) f b else keeps r NoRoom 0 (lentBytes b) then
     builds (reelOf (r .size) (r .frames) (r .end + length f) true)
-    (leaves (done []) (lentBytes (closedHeader (r .end + length f) (r .frames) (secondAt b) (put b (r .end) f))))
+    (leaves (done []) (lentBytes (closedHeader (r .size .format) (r .end + length f) (r .frames) (secondAt b) (put b (r .end) f))))
 
 -- "frames that end before it are 4, place 0; then 3"; "The ring is written from the state in which the close's own playing ends", to that after frame 1
 abbrev pub ringAfter : Reel → List ℕ → Ran → State → State → ReelOutcome
@@ -64,6 +64,6 @@ unfoldable pub closeReel : Reel → List ℕ → State → State → ReelOutcome
 unfolding ownPlaying closedHeader secondAt houseFrame
 closeReel reel bytes first second =
     require closeOk (reel .frames) (reel .closed) else keeps reel WrongTime 0 (lentBytesPairs bytes first second) then
-    require sizeOk (reel .size .width) (reel .size .height) else keeps reel BadSize 0 (lentBytesPairs bytes first second) then
+    require sizeFits (reel .size) else keeps reel BadSize 0 (lentBytesPairs bytes first second) then
     require enough (area (reel .size)) first && enough (area (reel .size)) second else keeps reel ShortSlice 0 (lentBytesPairs bytes first second) then
     closedBy reel bytes (ownPlaying reel bytes) first second

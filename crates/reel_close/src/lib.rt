@@ -48,7 +48,8 @@ fn put_ring(
     ) {
         Written::Refused(e, place) => refused(reel, e, place),
         Written::Done(end) => {
-            reel_header::close_header(bytes, end, reel.frames, second);
+            let format = size.format;
+            reel_header::close_header(bytes, format, end, reel.frames, second);
             Built {
                 answer: Answer::Done,
                 reel: Reel {
@@ -134,7 +135,7 @@ pub fn close_reel(
         return refused(reel, Refusal::WrongTime, 0);
     }
     let size = reel.size;
-    if !format::size_ok(size.width, size.height) {
+    if !format::size_fits(size) {
         return refused(reel, Refusal::BadSize, 0);
     }
     let n = size.width * size.height;

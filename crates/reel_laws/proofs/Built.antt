@@ -10,11 +10,10 @@ use native.Mathlib.Numerals.{sub-one}
 use borrow.Author.Tests.{le-leb}
 use lib.ListN.{length, take, drop, length-append}
 use lib.Seq.{take-at, take-all, drop-at}
-use Rattle.words.specs.Words.{u32At}
 use Rattle.words.specs.Writes.{put}
 use Rattle.words.proofs.Laws.{same-refl}
 use Rattle.words.proofs.Tests.{by-test}
-use Rattle.format.specs.Limits.{sizeOk, area, maxFrames}
+use Rattle.format.specs.Limits.{sizeFits, area, maxFrames}
 use Rattle.format.specs.declared.Size.{Size}
 use Rattle.answer.specs.Answer.{done, told}
 use Rattle.answer.specs.declared.Refusal.{Refusal}
@@ -27,11 +26,12 @@ use Rattle.chunks.specs.Spans.{HEADER-BYTES}
 use Rattle.house_frame.specs.House.{houseFrame, frameMost}
 use Rattle.house_back.specs.Plays.{ByteState}
 use Rattle.house_back.proofs.ReadsBack.{house-small}
-use Rattle.reel_header.specs.Head.{SPEED-AT, FINISHED, headOf}
+use Rattle.reel_header.specs.Head.{delayAt, headOf}
+use Rattle.reel_header.specs.declared.Takes.the-variants.{Both}
 use Rattle.reel_header.specs.declared.Head.{Head}
 use Rattle.reel_header.specs.declared.Head.the-variants as head
-use Rattle.reel_header.specs.Written.{fileHeader, opened, secondAt, closedHeader}
-use Rattle.reel_header.proofs.Laws.{opened-length, opened-closed, header-length, header-read, header-speed}
+use Rattle.reel_header.specs.Written.{openedIn, secondAt, closedHeader, headerIn}
+use Rattle.reel_header.proofs.Laws.{opened-in-length, opened-closed, header-length, header-read, header-speed}
 use Rattle.reel_play.specs.Play.{Shown, shown, playAll}
 use Rattle.reel_play.specs.declared.Ran.the-variants.{To}
 use Rattle.reel_check.specs.Check.{checkedBy, afterHead, ringAnswer, checkReel}
@@ -49,25 +49,25 @@ use Rattle.reel_laws.proofs.Making.{Holds, put-after, making-holds}
 
 -- A file: a closed header, and frames that lead to the states asked for and back to the first.
 
-module _ (z : Size) (speed : ℕ) (ok : sizeOk (z .width) (z .height) ≡ true) (first : State) (rest : List State) (few : suc (length rest) ≤ maxFrames)
+module _ (z : Size) (speed : ℕ) (ok : sizeFits z ≡ true) (first : State) (rest : List State) (few : suc (length rest) ≤ maxFrames)
     (fs : List ℕ) (shows : Shows z (blank (area z)) (first ∷ (rest ++ (first ∷ []))) fs) (second : ℕ) (word : HEADER-BYTES + length fs < 4294967296) where
   abbrev size : ℕ
   size = HEADER-BYTES + length fs
 
   abbrev top : List ℕ
-  top = fileHeader (HEADER-BYTES + length fs) (suc (length rest)) (z .width) (z .height) FINISHED speed HEADER-BYTES second
+  top = headerIn (z .format) (HEADER-BYTES + length fs) (suc (length rest)) (z .width) (z .height) speed second
 
   abbrev file : List ℕ
-  file = fileHeader (HEADER-BYTES + length fs) (suc (length rest)) (z .width) (z .height) FINISHED speed HEADER-BYTES second ++ fs
+  file = headerIn (z .format) (HEADER-BYTES + length fs) (suc (length rest)) (z .width) (z .height) speed second ++ fs
 
   top-length : length top ≡ HEADER-BYTES
-  top-length = header-length size (suc (length rest)) (z .width) (z .height) speed HEADER-BYTES second
+  top-length = header-length (z .format) size (suc (length rest)) (z .width) (z .height) speed second
 
   pub file-length : length file ≡ size
   file-length = length-append top fs ∙ ap (λ (k : ℕ). k + length fs) top-length
 
-  pub file-read : headOf file ≡ head.Reel (z .width) (z .height) (suc (length rest)) size (u32At file SPEED-AT)
-  file-read = header-read size (suc (length rest)) (z .width) (z .height) speed HEADER-BYTES second fs ok (omega arith) few word (omega arith) (omega (arith, file-length))
+  pub file-read : headOf Both file ≡ head.Reel z (suc (length rest)) size (delayAt (z .format) file)
+  file-read = header-read z size (suc (length rest)) speed second fs ok (omega arith) few word (omega arith) (omega (arith, file-length))
 
   pub frames-there : drop HEADER-BYTES file ≡ fs ++ []
   frames-there = drop-at top fs HEADER-BYTES top-length ∙ sym (append-nil fs)
@@ -95,7 +95,7 @@ module _ (z : Size) (speed : ℕ) (ok : sizeOk (z .width) (z .height) ≡ true) 
 -- The close.
 
 module _ (z : Size) (speed : ℕ) (b : List ℕ) (r : Reel) (first : State) (rest : List State) (i : Holds z speed b r (first ∷ rest)) where
-  abbrev ok : sizeOk (z .width) (z .height) ≡ true
+  abbrev ok : sizeFits z ≡ true
   ok = i .size
 
   abbrev fs : List ℕ
@@ -111,7 +111,7 @@ module _ (z : Size) (speed : ℕ) (b : List ℕ) (r : Reel) (first : State) (res
   open-reel = reelOf z (suc (length rest)) (HEADER-BYTES + length (i .frames)) false
 
   abbrev header : List ℕ
-  header = opened (z .width) (z .height) speed
+  header = openedIn (z .format) (z .width) (z .height) speed
 
   abbrev ring : List ℕ
   ring = houseFrame z (lastOf first rest) first
@@ -126,7 +126,7 @@ module _ (z : Size) (speed : ℕ) (b : List ℕ) (r : Reel) (first : State) (res
   ring-leads = house-leads z last-sized first-sized
 
   header-long : length header ≡ HEADER-BYTES
-  header-long = opened-length (z .width) (z .height) speed
+  header-long = opened-in-length (z .format) (z .width) (z .height) speed
 
   there : drop HEADER-BYTES b ≡ fs ++ i .rest
   there = ap (drop HEADER-BYTES) (i .bytes) ∙ drop-at header (fs ++ i .rest) HEADER-BYTES header-long
@@ -178,19 +178,19 @@ module _ (z : Size) (speed : ℕ) (b : List ℕ) (r : Reel) (first : State) (res
   second-read = ap (λ (k : ℕ). HEADER-BYTES + k) (first-size z ok b (i .shows) (i .rest) HEADER-BYTES there)
 
   abbrev top-is : List ℕ
-  top-is = fileHeader (HEADER-BYTES + length all-frames) count (z .width) (z .height) FINISHED speed HEADER-BYTES second-is
+  top-is = headerIn (z .format) (HEADER-BYTES + length all-frames) count (z .width) (z .height) speed second-is
 
   top-is-long : length top-is ≡ HEADER-BYTES
-  top-is-long = header-length (HEADER-BYTES + length all-frames) count (z .width) (z .height) speed HEADER-BYTES second-is
+  top-is-long = header-length (z .format) (HEADER-BYTES + length all-frames) count (z .width) (z .height) speed second-is
 
   abbrev whole : List ℕ
-  whole = fileHeader (HEADER-BYTES + length all-frames) count (z .width) (z .height) FINISHED speed HEADER-BYTES second-is ++ (all-frames ++ left)
+  whole = headerIn (z .format) (HEADER-BYTES + length all-frames) count (z .width) (z .height) speed second-is ++ (all-frames ++ left)
 
-  file-is : closedHeader (end + length ring) count (secondAt b) (put b end ring) ≡ whole
+  file-is : closedHeader (z .format) (end + length ring) count (secondAt b) (put b end ring) ≡ whole
   file-is =
-      ap₂ (λ (k : ℕ) (x : List ℕ). closedHeader k count (secondAt b) x) size-is (put-after z speed i ring)
-      ∙ ap (λ (k : ℕ). closedHeader (HEADER-BYTES + length all-frames) count k (header ++ (all-frames ++ left))) second-read
-      ∙ opened-closed (z .width) (z .height) speed (HEADER-BYTES + length all-frames) count second-is (all-frames ++ left)
+      ap₂ (λ (k : ℕ) (x : List ℕ). closedHeader (z .format) k count (secondAt b) x) size-is (put-after z speed i ring)
+      ∙ ap (λ (k : ℕ). closedHeader (z .format) (HEADER-BYTES + length all-frames) count k (header ++ (all-frames ++ left))) second-read
+      ∙ opened-closed (z .format) (z .width) (z .height) speed (HEADER-BYTES + length all-frames) count second-is (all-frames ++ left)
 
   abbrev closed-reel : Reel
   closed-reel = reelOf z (suc (length rest)) (HEADER-BYTES + length (i .frames ++ houseFrame z (lastOf first rest) first)) true
@@ -212,8 +212,9 @@ module _ (z : Size) (speed : ℕ) (b : List ℕ) (r : Reel) (first : State) (res
         record-is = refl;
         second = second-is;
         header = take-at top-is all-frames HEADER-BYTES top-is-long;
-        header-read = file-read z speed ok first rest (i .few) all-frames shows second-is word;
-        speed-is = λ quick. header-speed (HEADER-BYTES + length all-frames) count (z .width) (z .height) speed HEADER-BYTES second-is all-frames quick;
+        header-read = λ quick.
+            file-read z speed ok first rest (i .few) all-frames shows second-is word
+            ∙ ap (head.Reel z count (HEADER-BYTES + length all-frames)) (header-speed (z .format) (HEADER-BYTES + length all-frames) count (z .width) (z .height) speed second-is all-frames quick);
         oframe1-is = two .frame-1;
         third = two .third;
         oframe2-is = two .frame-2;
@@ -227,7 +228,7 @@ module _ (z : Size) (speed : ℕ) (b : List ℕ) (r : Reel) (first : State) (res
   -- with room for the ring
   ring-fits : fits end ring b ≡ true → ringWritten open-reel ring b ≡ closes
   ring-fits k =
-      ap (λ (t : Bool). cond t (builds (reelOf z count (end + length ring) true) (leaves (done []) (lentBytes (closedHeader (end + length ring) count (secondAt b) (put b end ring))))) (keeps open-reel NoRoom 0 (lentBytes b))) k
+      ap (λ (t : Bool). cond t (builds (reelOf z count (end + length ring) true) (leaves (done []) (lentBytes (closedHeader (z .format) (end + length ring) count (secondAt b) (put b end ring))))) (keeps open-reel NoRoom 0 (lentBytes b))) k
       ∙ ap₂ (λ (n : ℕ) (x : List ℕ). builds (reelOf z count n true) (leaves (done []) (lentBytes x))) size-is file-is
 
   -- and without

@@ -12,14 +12,14 @@ use lib.Seq.{length-take-le, take-take}
 use Rattle.words.specs.Words.{Bytes}
 use Rattle.words.proofs.Laws.{bytes-take, bytes-drop}
 use Rattle.words.proofs.Tests.{by-test}
-use Rattle.format.specs.Limits.{sizeOk, area}
+use Rattle.format.specs.Limits.{sizeFits, area}
 use Rattle.format.specs.declared.Size.{Size}
 use Rattle.answer.specs.Answer.{done}
 use Rattle.state.specs.State.{State, blank, enough}
 use Rattle.state.proofs.Laws.{enough-is, passed}
 use Rattle.chunks.specs.declared.Layout.the-variants.{Packed}
 use Rattle.chunks.specs.Spans.{HEADER-BYTES}
-use Rattle.reel_header.specs.Written.{opened}
+use Rattle.reel_header.specs.Written.{openedIn}
 use Rattle.reel_play.specs.Play.{ran, oneFrame, frames, Shown, shown, playAll}
 use Rattle.reel_play.specs.declared.Ran.{Ran}
 use Rattle.reel_play.specs.declared.Ran.the-variants.{Stopped, To}
@@ -70,7 +70,7 @@ module _ (z : Size) (b : List ℕ) where
             next-is = omega (arith, r .next-is, i .end-is, length-append (i .bytes) (r .bytes));
           })
 
-module _ (speed : ℕ) (r : Reel) (b : List ℕ) (bytes-in : Bytes b) (header-in : take HEADER-BYTES b ≡ opened (r .size .width) (r .size .height) speed) where
+module _ (speed : ℕ) (r : Reel) (b : List ℕ) (bytes-in : Bytes b) (header-in : take HEADER-BYTES b ≡ openedIn (r .size .format) (r .size .width) (r .size .height) speed) where
   -- what the reel's bytes show
   record Found : Type 0 where
     pub first : State
@@ -78,7 +78,7 @@ module _ (speed : ℕ) (r : Reel) (b : List ℕ) (bytes-in : Bytes b) (header-in
     pub holds : Holds (r .size) speed b r (first ∷ rest)
 
   -- the close's own playing came to an end at or behind the record's
-  ended : closeOk (r .frames) (r .closed) ≡ true → sizeOk (r .size .width) (r .size .height) ≡ true → (x : Shown) → ownPlaying r b ≡ x
+  ended : closeOk (r .frames) (r .closed) ≡ true → sizeFits (r .size) ≡ true → (x : Shown) → ownPlaying r b ≡ x
       → (from to : ℕ) → x .result ≡ To from to → r .end ≤ to → Found
   ended taken sized x own from to q reach =
       by-test (λ t. Found) (endOk (r .end) (length b))
@@ -100,7 +100,7 @@ module _ (speed : ℕ) (r : Reel) (b : List ℕ) (bytes-in : Bytes b) (header-in
           let at : r .end ≡ HEADER-BYTES + length own-bytes = omega (arith, a .next-is, i .0) in
           let none-left : length (drop to c) ≡ 0 = omega arith in
           let frames-are : drop HEADER-BYTES c ≡ own-bytes = a .there ∙ ap (λ (y : List ℕ). own-bytes ++ y) (empty (drop to c) none-left) ∙ append-nil own-bytes in
-          let front : take HEADER-BYTES c ≡ opened (z .width) (z .height) speed = take-take HEADER-BYTES (r .end) b (i .0) ∙ header-in in
+          let front : take HEADER-BYTES c ≡ openedIn (z .format) (z .width) (z .height) speed = take-take HEADER-BYTES (r .end) b (i .0) ∙ header-in in
           record {
             first = x .one;
             rest = a .rest;
@@ -114,7 +114,7 @@ module _ (speed : ℕ) (r : Reel) (b : List ℕ) (bytes-in : Bytes b) (header-in
                   bytes =
                       sym (take-append-drop (r .end) b)
                       ∙ ap (λ (y : List ℕ). y ++ drop (r .end) b) (sym (take-append-drop HEADER-BYTES c) ∙ ap₂ (λ (u v : List ℕ). u ++ v) front frames-are)
-                      ∙ append-assoc (opened (z .width) (z .height) speed) own-bytes (drop (r .end) b);
+                      ∙ append-assoc (openedIn (z .format) (z .width) (z .height) speed) own-bytes (drop (r .end) b);
                   each-sized = shows-each z (a .shows) (subst Bytes frames-are (bytes-drop HEADER-BYTES c (bytes-take (r .end) b bytes-in))) (byte-start z sized);
                   few = omega (arith, few-frames, few .1);
                 };
@@ -135,11 +135,11 @@ module _ (speed : ℕ) (r : Reel) (b : List ℕ) (bytes-in : Bytes b) (header-in
         let n = area (r .size) in
         let o = closeReel r b p q in
         let e₁ = passed says (closeOk (r .frames) (r .closed)) {o = o} refl d refl in
-        let e₂ = passed says (sizeOk (r .size .width) (r .size .height)) (e₁ .1) d refl in
+        let e₂ = passed says (sizeFits (r .size)) (e₁ .1) d refl in
         let e₃ = passed says (enough n p && enough n q) (e₂ .1) d refl in
         by-result (e₁ .0) (e₂ .0) (ownPlaying r b .result) refl (ap says (e₃ .1) ∙ d)
       where
-        by-result : closeOk (r .frames) (r .closed) ≡ true → sizeOk (r .size .width) (r .size .height) ≡ true → (y : Ran) → ownPlaying r b .result ≡ y
+        by-result : closeOk (r .frames) (r .closed) ≡ true → sizeFits (r .size) ≡ true → (y : Ran) → ownPlaying r b .result ≡ y
             → ringAfter r b y (ownPlaying r b .last) (ownPlaying r b .one) .left .said ≡ done [] → Found
         by-result taken sized (Stopped e place) own k = let z : _≡_ {A = ℕ} 0 1 = cc in absurd (omega arith)
         by-result taken sized (To from to) own k =

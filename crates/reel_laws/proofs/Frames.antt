@@ -9,7 +9,7 @@ use lib.ListN.{length, take, drop, length-append}
 use Rattle.words.specs.Words.{part, u32At}
 use Rattle.words.proofs.There.{there-drop, there-take, drop-word32}
 use Rattle.words.proofs.Bytewise.{bytes-replicate}
-use Rattle.format.specs.Limits.{area, sizeOk}
+use Rattle.format.specs.Limits.{area, sizeFits}
 use Rattle.format.specs.declared.Size.{Size}
 use Rattle.format.proofs.Laws.{size-in}
 use Rattle.answer.specs.declared.Answer.the-variants.{Done}
@@ -85,9 +85,9 @@ module _ (z : Size) where
         after = ap₂ state (back .picture) (back .palette);
       }
 
-module _ (z : Size) (ok : sizeOk (z .width) (z .height) ≡ true) where
+module _ (z : Size) (ok : sizeFits z ≡ true) where
   pub exact-start : Exact z (blank (area z))
-  exact-start = blank-exact z (size-in (z .width) (z .height) ok)
+  exact-start = blank-exact z (size-in z ok)
 
   pub byte-start : ByteState z (blank (area z))
   unfolding blank

@@ -1,18 +1,16 @@
 -- What a refused add or close leaves as it was, all bytes and the record; and what every close leaves: each header byte but those of the fields it sets.
-use mathlib.Core.Path.{_≡_, refl, sym, ap, _∙_}
-use mathlib.Core.List.{List, [], _++_, append-assoc}
-use mathlib.Core.Logic.{_⊎_, inl, inr}
+use mathlib.Core.Path.{_≡_, refl, ap, _∙_}
+use mathlib.Core.List.{List, []}
+use mathlib.Core.Logic.{inl}
 use mathlib.Core.Bool.{Bool, true, _&&_, cond}
-use Prim.Native.Nat.{ℕ, _+_, _-_, _≤_, _<_}
+use Prim.Native.Nat.{ℕ, _+_, _≤_}
 use native.Mathlib.Omega.{arith}
 use lib.Dec.{leb}
-use lib.ListN.{length, take, drop, getD, List·getD-append, length-append}
-use lib.Seq.{getD-append-add, getD-take, getD-drop, length-take-le}
-use Rattle.words.specs.Words.{le16, le32}
+use lib.ListN.{length, getD}
 use Rattle.words.specs.Writes.{put}
 use Rattle.words.proofs.Laws.{length-put}
 use Rattle.words.proofs.Tests.{by-test, cond-holds}
-use Rattle.format.specs.Limits.{sizeOk, area}
+use Rattle.format.specs.Limits.{sizeFits, area}
 use Rattle.answer.specs.Answer.{done, refused}
 use Rattle.answer.specs.declared.Refusal.{Refusal}
 use Rattle.answer.specs.declared.Refusal.the-variants.{ShortSlice, BadSize, NoRoom, Cut, WrongTime}
@@ -20,8 +18,8 @@ use Rattle.state.specs.State.{State, front, enough, refilled}
 use Rattle.state.specs.Outcome.{Memory, lentBytes, lentBytesPairs, leaves}
 use Rattle.chunks.specs.Spans.{HEADER-BYTES}
 use Rattle.house_frame.specs.House.{houseFrame}
-use Rattle.reel_header.specs.Head.{SIZE-AT, FRAMES-AT, FLAGS-AT, OFRAME1-AT, OFRAME2-AT, FINISHED}
-use Rattle.reel_header.specs.Written.{secondAt, closedHeader}
+use Rattle.reel_header.specs.Written.{secondAt, closedHeader, Other}
+use Rattle.reel_header.proofs.Kept.{put-other, closed-keeps}
 use Rattle.reel_play.specs.Play.{Shown}
 use Rattle.reel_play.specs.declared.Ran.{Ran}
 use Rattle.reel_play.specs.declared.Ran.the-variants.{Stopped, To}
@@ -31,21 +29,6 @@ use Rattle.reel_build.specs.Building.{endOk, fits, addOk, addFrame}
 use Rattle.reel_build.proofs.Laws.{fits-in, end-in}
 use Rattle.reel_close.specs.Closing.{ownPlaying, ringWritten, ringAfter, closeFrames, withPairs, closeOk, closeReel}
 use Rattle.reel_close.proofs.Laws.{own-record}
-use Rattle.reel_laws.specs.Building.{Other}
-
--- a byte outside of what is stored
-put-other : (d v : List ℕ) (at i : ℕ) → at + length v ≤ length d → (i < at) ⊎ (at + length v ≤ i) → getD (put d at v) i 0 ≡ getD d i 0
-put-other d v at i h (inl k) =
-    List·getD-append (take at d) (v ++ drop (at + length v) d) 0 i (omega (arith, length-take-le at d (omega arith))) ∙ getD-take at d i 0 k
-put-other d v at i h (inr k) =
-    let j = i - (at + length v) in
-    let e : length (take at d ++ v) + j ≡ i = omega (arith, length-append (take at d) v, length-take-le at d (omega arith)) in
-    let g : at + length v + j ≡ i = omega arith in
-    ap (λ (x : List ℕ). getD x i 0) (sym (append-assoc (take at d) v (drop (at + length v) d)))
-    ∙ ap (λ (m : ℕ). getD ((take at d ++ v) ++ drop (at + length v) d) m 0) (sym e)
-    ∙ getD-append-add (take at d ++ v) (drop (at + length v) d) j 0
-    ∙ getD-drop (at + length v) d j 0
-    ∙ ap (λ (m : ℕ). getD d m 0) g
 
 -- all bytes and the record where it is refused
 
@@ -70,7 +53,7 @@ module _ (r : Reel) (b : List ℕ) (s t : State) (number place : ℕ) where
   add-kept =
       let n = area (r .size) in
       kept-by (addOk (r .frames) (r .closed)) _ WrongTime (lentBytes b) refl
-      (kept-by (sizeOk (r .size .width) (r .size .height)) _ BadSize (lentBytes b) refl
+      (kept-by (sizeFits (r .size)) _ BadSize (lentBytes b) refl
       (kept-by (enough n s && enough n t) _ ShortSlice (lentBytes b) refl
       (kept-by (endOk (r .end) (length b)) _ Cut (lentBytes b) refl
       (kept-by (fits (r .end) (houseFrame (r .size) (front n s) (front n t)) b) _ NoRoom (lentBytes b) refl (kept-done _ _)))))
@@ -93,7 +76,7 @@ module _ (r : Reel) (b : List ℕ) (s t : State) (number place : ℕ) where
       let n = area (r .size) in
       let x = ownPlaying r b in
       kept-by (closeOk (r .frames) (r .closed)) _ WrongTime (lentBytesPairs b s t) refl
-      (kept-by (sizeOk (r .size .width) (r .size .height)) _ BadSize (lentBytesPairs b s t) refl
+      (kept-by (sizeFits (r .size)) _ BadSize (lentBytesPairs b s t) refl
       (kept-by (enough n s && enough n t) _ ShortSlice (lentBytesPairs b s t) refl
       (ring-kept (x .result) (x .last) (x .one) (refilled n (x .last) s) (refilled n (x .one) t))))
 
@@ -103,58 +86,36 @@ module _ (r : Reel) (b : List ℕ) (s t : State) (number place : ℕ) where
 
 -- every other header byte
 
-module _ (i : ℕ) (o : Other i) where
-  header-keeps : (d : List ℕ) (size frames second : ℕ) → HEADER-BYTES ≤ length d → getD (closedHeader size frames second d) i 0 ≡ getD d i 0
-  unfolding closedHeader
-  header-keeps d size frames second h =
-      let d₁ = put d SIZE-AT (le32 size []) in
-      let d₂ = put d₁ FRAMES-AT (le16 frames []) in
-      let d₃ = put d₂ FLAGS-AT (le16 FINISHED []) in
-      let d₄ = put d₃ OFRAME1-AT (le32 HEADER-BYTES []) in
-      let l₁ = length-put d SIZE-AT (le32 size []) (omega arith) in
-      let l₂ = length-put d₁ FRAMES-AT (le16 frames []) (omega arith) in
-      let l₃ = length-put d₂ FLAGS-AT (le16 FINISHED []) (omega arith) in
-      let l₄ = length-put d₃ OFRAME1-AT (le32 HEADER-BYTES []) (omega arith) in
-      put-other d₄ (le32 second []) OFRAME2-AT i (omega arith) (before-or-behind OFRAME2-AT (omega arith) (omega arith) (o .not-oframes))
-      ∙ put-other d₃ (le32 HEADER-BYTES []) OFRAME1-AT i (omega arith) (before-or-behind OFRAME1-AT (omega arith) (omega arith) (o .not-oframes))
-      ∙ put-other d₂ (le16 FINISHED []) FLAGS-AT i (omega arith) (o .not-flags)
-      ∙ put-other d₁ (le16 frames []) FRAMES-AT i (omega arith) (o .not-frames)
-      ∙ put-other d (le32 size []) SIZE-AT i (omega arith) (inr (o .not-size))
+-- the same whether the close was done or refused
+module _ (r : Reel) (b : List ℕ) (i : ℕ) (o : Other (r .size .format) i) where
+  abbrev Same : ReelOutcome → Type 0
+  Same x = getD (x .left .memory .bytes) i 0 ≡ getD b i 0
+
+  ring-keeps : (f : List ℕ) → HEADER-BYTES ≤ r .end → Same (ringWritten r f b)
+  ring-keeps f h =
+      by-test (λ t. Same (cond t (builds (reelOf (r .size) (r .frames) (r .end + length f) true) (leaves (done []) (lentBytes (closedHeader (r .size .format) (r .end + length f) (r .frames) (secondAt b) (put b (r .end) f))))) (keeps r NoRoom 0 (lentBytes b))))
+      (fits (r .end) f b)
+      (λ e. let room = fits-in (r .end) f b e .0 in
+      closed-keeps (r .size .format) i o (put b (r .end) f) (r .end + length f) (r .frames) (secondAt b) (omega (arith, length-put b (r .end) f room))
+      ∙ put-other b f (r .end) i room (inl (omega (arith, o .in-header))))
+      (λ e. refl)
+
+  play-keeps : HEADER-BYTES ≤ r .end → (x : Ran) (s t : State) → Same (ringAfter r b x s t)
+  play-keeps h (Stopped e at) s t = refl
+  play-keeps h (To last next) s t = cond-holds Same (leb (r .end) next) _ _ (ring-keeps (houseFrame (r .size) s t) h) refl
+
+  frames-keep : Same (closeFrames r b (ownPlaying r b))
+  frames-keep =
+      by-test (λ t. Same (closeFrames r b (ownPlaying r b))) (endOk (r .end) (length b))
+      (λ e. let x = ownPlaying r b in play-keeps (end-in (r .end) (length b) e .0) (x .result) (x .last) (x .one))
+      (λ e. ap (λ (x : Shown). getD (closeFrames r b x .left .memory .bytes) i 0) (own-record r b e))
+
+  pub close-keeps : (s t : State) → getD (closeReel r b s t .left .memory .bytes) i 0 ≡ getD b i 0
+  unfolding closeReel
+  close-keeps s t =
+      let n = area (r .size) in
+      by (closeOk (r .frames) (r .closed)) _ WrongTime
+      (by (sizeFits (r .size)) _ BadSize (by (enough n s && enough n t) _ ShortSlice frames-keep))
     where
-      before-or-behind : (at : ℕ) → 80 ≤ at → at + 4 ≤ 88 → (i < 80) ⊎ (88 ≤ i) → (i < at) ⊎ (at + 4 ≤ i)
-      before-or-behind at h k (inl x) = inl (omega arith)
-      before-or-behind at h k (inr x) = inr (omega arith)
-
-  -- the same whether the close was done or refused
-  module _ (r : Reel) (b : List ℕ) where
-    abbrev Same : ReelOutcome → Type 0
-    Same x = getD (x .left .memory .bytes) i 0 ≡ getD b i 0
-
-    ring-keeps : (f : List ℕ) → HEADER-BYTES ≤ r .end → Same (ringWritten r f b)
-    ring-keeps f h =
-        by-test (λ t. Same (cond t (builds (reelOf (r .size) (r .frames) (r .end + length f) true) (leaves (done []) (lentBytes (closedHeader (r .end + length f) (r .frames) (secondAt b) (put b (r .end) f))))) (keeps r NoRoom 0 (lentBytes b))))
-        (fits (r .end) f b)
-        (λ e. let room = fits-in (r .end) f b e .0 in
-        header-keeps (put b (r .end) f) (r .end + length f) (r .frames) (secondAt b) (omega (arith, length-put b (r .end) f room))
-        ∙ put-other b f (r .end) i room (inl (omega (arith, o .in-header))))
-        (λ e. refl)
-
-    play-keeps : HEADER-BYTES ≤ r .end → (x : Ran) (s t : State) → Same (ringAfter r b x s t)
-    play-keeps h (Stopped e at) s t = refl
-    play-keeps h (To last next) s t = cond-holds Same (leb (r .end) next) _ _ (ring-keeps (houseFrame (r .size) s t) h) refl
-
-    frames-keep : Same (closeFrames r b (ownPlaying r b))
-    frames-keep =
-        by-test (λ t. Same (closeFrames r b (ownPlaying r b))) (endOk (r .end) (length b))
-        (λ e. let x = ownPlaying r b in play-keeps (end-in (r .end) (length b) e .0) (x .result) (x .last) (x .one))
-        (λ e. ap (λ (x : Shown). getD (closeFrames r b x .left .memory .bytes) i 0) (own-record r b e))
-
-    pub close-keeps : (s t : State) → getD (closeReel r b s t .left .memory .bytes) i 0 ≡ getD b i 0
-    unfolding closeReel
-    close-keeps s t =
-        let n = area (r .size) in
-        by (closeOk (r .frames) (r .closed)) _ WrongTime
-        (by (sizeOk (r .size .width) (r .size .height)) _ BadSize (by (enough n s && enough n t) _ ShortSlice frames-keep))
-      where
-        by : (c : Bool) (x : ReelOutcome) (e : Refusal) → Same x → Same (cond c x (keeps r e 0 (lentBytesPairs b s t)))
-        by c x e k = cond-holds Same c x (keeps r e 0 (lentBytesPairs b s t)) k refl
+      by : (c : Bool) (x : ReelOutcome) (e : Refusal) → Same x → Same (cond c x (keeps r e 0 (lentBytesPairs b s t)))
+      by c x e k = cond-holds Same c x (keeps r e 0 (lentBytesPairs b s t)) k refl

@@ -19,6 +19,7 @@ use Rattle.reel_header.specs.Head.{headOf}
 use Rattle.chunks.specs.declared.Layout.the-variants.{Loose}
 use Rattle.chunks.specs.Spans.{HEADER-BYTES, Spans, frameSpans, nextAt}
 use Rattle.chunks.proofs.Spans.{afterNext, frameSpans-next, frameSpans-none}
+use Rattle.reel_header.specs.declared.Takes.the-variants.{Both}
 use Rattle.reel_header.specs.declared.Head.the-variants as head
 use Rattle.chunks.specs.declared.Next.{Next}
 use Rattle.chunks.specs.declared.Next.the-variants.{Fault, Frame}
@@ -28,8 +29,9 @@ use Rattle.reel_play.proofs.Laws.{not-to, frames-played}
 use Rattle.reel_play.specs.declared.Ran.{Ran}
 use Rattle.reel_play.specs.declared.Ran.the-variants.{Stopped, To}
 use Rattle.reel_laws.specs.Laps.{lastOf, times, statesBy, statesOf, states, laps, Reads, none, next, LeadsBack}
-use Rattle.format.specs.Limits.{area, sizeOf, sizeOk, Sized}
+use Rattle.format.specs.Limits.{area, sizeFits, Sized}
 use Rattle.format.specs.declared.Size.{Size}
+use Rattle.delay.specs.declared.Milliseconds.{Milliseconds}
 use Rattle.format.proofs.Laws.{size-in}
 use Rattle.answer.specs.Answer.{done, told}
 use Rattle.state.specs.State.{State, state, blank, refilled, Exact}
@@ -66,7 +68,7 @@ unfolding blank
 blank-exact z s =
     record { picture = record { size = s; pixels = length-replicate {0} {A = ℕ} (area z) 0 }; colours = length-replicate {0} {A = ℕ} 768 0 }
 
-module _ (z : Size) (ok : sizeOk (z .width) (z .height) ≡ true) where
+module _ (z : Size) (ok : sizeFits z ≡ true) where
   -- an accepted frame, read against s
   module _ (f : List ℕ) (s : State) (i : Exact z s) (d : frame z f .answer ≡ Done) where
     pub reads-played : readFrame f z s ≡ leaves (told Done) (lentPair (played (frame z f) s))
@@ -169,7 +171,7 @@ laps-same z b count at s ts e l (suc k) =
 
 -- the check
 
-module _ (b : List ℕ) (z : Size) (count size speed : ℕ) (is : headOf b ≡ head.Reel (z .width) (z .height) count size speed) where
+module _ (b : List ℕ) (z : Size) (count size : ℕ) (speed : Milliseconds) (is : headOf Both b ≡ head.Reel z count size speed) where
   abbrev reel : List ℕ
   reel = take size b
 
@@ -184,9 +186,9 @@ module _ (b : List ℕ) (z : Size) (count size speed : ℕ) (is : headOf b ≡ h
       → Came (shownAfter (ran r one) (λ last at s. frames Loose z reel count last at s)) → Leads one
   played-leads (Stopped r p) one o c = let e = c .to in let f : _≡_ {A = ℕ} 0 1 = cc in absurd (omega arith)
   played-leads (To first second) one o c =
-      let hd = head-in b (head.Reel (z .width) (z .height) count size speed) is in
+      let hd = head-in Both b (head.Reel z count size speed) is in
       let ok = hd .sized in
-      let x = one-read z ok reel HEADER-BYTES (blank (area z)) (blank-exact z (size-in (z .width) (z .height) ok)) first second one o in
+      let x = one-read z ok reel HEADER-BYTES (blank (area z)) (blank-exact z (size-in z ok)) first second one o in
       let e : frames Loose z reel count first second one ≡ ran (To (c .ring) (c .end)) one = ap₂ (λ (u : Ran) (t : State). ran u t) (c .to) (c .same) in
       let t = frames-through z ok reel count first second one (x .exact) (c .ring) (c .end) one e in
       let ts = states Loose z reel count second one in
@@ -226,7 +228,7 @@ module _ (b : List ℕ) (first second : State) where
   pub accepted-leads-back : checkReel b first second .said ≡ done [] → Accepted (checkReel b first second)
   accepted-leads-back e =
       let c = check-passed b first second e in
-      let l = came-leads b (sizeOf (c .width) (c .height)) (c .count) (c .size) (c .speed) (c .header) (c .played) in
+      let l = came-leads b (c .picture) (c .count) (c .size) (c .speed) (c .header) (c .played) in
       record {
         leads = l .leads;
         pairs = c .pairs ∙ ap₂ (λ (n : ℕ) (s : State). leaves (told Done) (lentPairs (refilled n s first) (refilled n s second))) (sym (l .pixels)) (sym (l .shows));

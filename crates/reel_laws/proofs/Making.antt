@@ -14,8 +14,11 @@ use Rattle.words.specs.Writes.{put}
 use Rattle.words.proofs.Laws.{put-front, bytes-take}
 use Rattle.words.proofs.There.{put-behind}
 use Rattle.words.proofs.Tests.{both-true}
-use Rattle.format.specs.Limits.{sizeOk, area, maxFrames}
+use Rattle.format.specs.Limits.{sizeFits, sizeOf, area, maxFrames}
+use Rattle.format.specs.declared.Format.{Format}
+use Rattle.format.specs.declared.Format.the-variants.{Flc, Fli}
 use Rattle.format.specs.declared.Size.{Size}
+use Rattle.delay.specs.Delay.{jiffies, milliseconds}
 use Rattle.answer.specs.Answer.{Said, done}
 use Rattle.state.specs.State.{State, blank, front, enough}
 use Rattle.state.specs.Outcome.{lentBytes, leaves}
@@ -24,13 +27,13 @@ use Rattle.chunks.specs.Spans.{HEADER-BYTES}
 use Rattle.house_frame.specs.House.{houseFrame, frameMost}
 use Rattle.house_frame.proofs.Laws.{house-short}
 use Rattle.house_back.specs.Plays.{ByteState}
-use Rattle.reel_header.specs.Written.{opened}
-use Rattle.reel_header.proofs.Laws.{opened-length}
+use Rattle.reel_header.specs.Written.{openedIn}
+use Rattle.reel_header.proofs.Laws.{opened-flc, opened-fli, opened-in-length}
 use Rattle.reel_build.specs.declared.Reel.{Reel}
 use Rattle.reel_build.specs.Record.{reelOf, ReelOutcome, builds}
-use Rattle.reel_build.specs.Building.{openReel, endOk, fits, addFrame}
+use Rattle.reel_build.specs.Building.{openReel, openFli, endOk, fits, addFrame}
 use Rattle.reel_laws.specs.Laps.{lastOf}
-use Rattle.reel_laws.specs.Building.{Making, opening, adding, moving, refusing}
+use Rattle.reel_laws.specs.Building.{openIn, Making, opening, adding, moving, refusing}
 use Rattle.reel_laws.proofs.Kept.{add-refused}
 use Rattle.reel_laws.proofs.Frames.{Leads, Shows, none, shows-add, Each, no-state, each-add, each-last, house-leads, byte-start}
 
@@ -38,34 +41,47 @@ use Rattle.reel_laws.proofs.Frames.{Leads, Shows, none, shows-add, Each
 abbrev pub says : ReelOutcome → Said
 says o = o .left .said
 
+-- an open that is done, by its format
+
+opened-by : (speed : ℕ) (f : Format) (w h : ℕ) (b b′ : List ℕ) (r : Reel) → openIn f w h speed b ≡ builds r (leaves (done []) (lentBytes b′))
+    → (sizeFits (sizeOf f w h) ≡ true) × (r ≡ reelOf (sizeOf f w h) 0 HEADER-BYTES false) × (b′ ≡ put b 0 (openedIn f w h speed))
+unfolding openReel openFli
+opened-by speed Flc w h b b′ r e =
+    let s = passed says (sizeFits (sizeOf Flc w h)) e refl refl in
+    let l = passed says (leb HEADER-BYTES (length b)) (s .1) refl refl in
+    (s .0, sym (ap (λ (o : ReelOutcome). o .reel) (l .1)), sym (ap (λ (o : ReelOutcome). o .left .memory .bytes) (l .1)) ∙ ap (put b 0) (opened-flc w h (milliseconds speed)))
+opened-by speed Fli w h b b′ r e =
+    let s = passed says (sizeFits (sizeOf Fli w h)) e refl refl in
+    let d = passed says (leb speed 65535) (s .1) refl refl in
+    let l = passed says (leb HEADER-BYTES (length b)) (d .1) refl refl in
+    (s .0, sym (ap (λ (o : ReelOutcome). o .reel) (l .1)), sym (ap (λ (o : ReelOutcome). o .left .memory .bytes) (l .1)) ∙ ap (put b 0) (opened-fli w h (jiffies speed)))
+
 -- the invariant
 
 module _ (z : Size) (speed : ℕ) where
   abbrev top : List ℕ
-  top = opened (z .width) (z .height) speed
+  top = openedIn (z .format) (z .width) (z .height) speed
 
   pub record Holds (b : List ℕ) (r : Reel) (asked : List State) : Type 0 where
-    pub size : sizeOk (z .width) (z .height) ≡ true
+    pub size : sizeFits z ≡ true
     pub frames : List ℕ
     pub shows : Shows z (blank (area z)) asked frames
     pub is : r ≡ reelOf z (length asked) (HEADER-BYTES + length frames) false
     pub rest : List ℕ
-    pub bytes : b ≡ opened (z .width) (z .height) speed ++ (frames ++ rest)
+    pub bytes : b ≡ openedIn (z .format) (z .width) (z .height) speed ++ (frames ++ rest)
     pub each-sized : Each z asked
     pub few : length asked ≤ maxFrames
 
-  open-holds : (b b′ : List ℕ) (r : Reel) → openReel z speed b ≡ builds r (leaves (done []) (lentBytes b′)) → Holds b′ r []
-  unfolding openReel
+  open-holds : (b b′ : List ℕ) (r : Reel) → openIn (z .format) (z .width) (z .height) speed b ≡ builds r (leaves (done []) (lentBytes b′)) → Holds b′ r []
   open-holds b b′ r e =
-      let f = passed says (sizeOk (z .width) (z .height)) e refl refl in
-      let g = passed says (leb HEADER-BYTES (length b)) (f .1) refl refl in
+      let o = opened-by speed (z .format) (z .width) (z .height) b b′ r e in
       record {
-        size = f .0;
+        size = o .0;
         frames = [];
         shows = none;
-        is = sym (ap (λ (o : ReelOutcome). o .reel) (g .1));
+        is = o .1;
         rest = drop (length top) b;
-        bytes = sym (ap (λ (o : ReelOutcome). o .left .memory .bytes) (g .1)) ∙ put-front b top;
+        bytes = o .2 ∙ put-front b top;
         each-sized = no-state;
         few = omega arith;
       }
@@ -74,12 +90,12 @@ module _ (z : Size) (speed : ℕ) where
   behind : (b fs rest f : List ℕ) → b ≡ top ++ (fs ++ rest) → put b (HEADER-BYTES + length fs) f ≡ top ++ ((fs ++ f) ++ drop (length f) rest)
   behind b fs rest f e =
       ap (λ (x : List ℕ). put x (HEADER-BYTES + length fs) f) (e ∙ sym (append-assoc top fs rest))
-      ∙ put-behind (top ++ fs) rest f (HEADER-BYTES + length fs) (length-append top fs ∙ ap (λ (x : ℕ). x + length fs) (opened-length (z .width) (z .height) speed))
+      ∙ put-behind (top ++ fs) rest f (HEADER-BYTES + length fs) (length-append top fs ∙ ap (λ (x : ℕ). x + length fs) (opened-in-length (z .format) (z .width) (z .height) speed))
       ∙ append-assoc top fs (f ++ drop (length f) rest)
       ∙ ap (λ (x : List ℕ). top ++ x) (sym (append-assoc fs f (drop (length f) rest)))
 
   pub put-after : {b : List ℕ} {r : Reel} {asked : List State} (i : Holds b r asked) (f : List ℕ)
-      → put b (HEADER-BYTES + length (i .frames)) f ≡ opened (z .width) (z .height) speed ++ ((i .frames ++ f) ++ drop (length f) (i .rest))
+      → put b (HEADER-BYTES + length (i .frames)) f ≡ openedIn (z .format) (z .width) (z .height) speed ++ ((i .frames ++ f) ++ drop (length f) (i .rest))
   put-after {b} i f = behind b (i .frames) (i .rest) f (i .bytes)
 
   add-holds : (b b′ : List ℕ) (r r′ : Reel) (asked : List State) (s t : State) → Bytes (t .picture) → Holds b r asked
@@ -96,7 +112,7 @@ module _ (z : Size) (speed : ℕ) where
       let r₀ = reelOf z k end false in
       let e₀ : addFrame r₀ b s t ≡ builds r′ (leaves (done []) (lentBytes b′)) = ap (λ (x : Reel). addFrame x b s t) (sym (i .is)) ∙ e in
       let e₁ = passed says (ltb k maxFrames) e₀ refl refl in
-      let e₂ = passed says (sizeOk (z .width) (z .height)) (e₁ .1) refl refl in
+      let e₂ = passed says (sizeFits z) (e₁ .1) refl refl in
       let e₃ = passed says (enough n s && enough n t) (e₂ .1) refl refl in
       let e₄ = passed says (endOk end (length b)) (e₃ .1) refl refl in
       let e₅ = passed says (fits end f b) (e₄ .1) refl refl in
@@ -126,7 +142,7 @@ module _ (z : Size) (speed : ℕ) where
       let fs = i .frames in
       let end = HEADER-BYTES + length fs in
       let at : r .end ≡ end = ap (λ (x : Reel). x .end) (i .is) in
-      let long : length (top ++ fs) ≡ end = length-append top fs ∙ ap (λ (x : ℕ). x + length fs) (opened-length (z .width) (z .height) speed) in
+      let long : length (top ++ fs) ≡ end = length-append top fs ∙ ap (λ (x : ℕ). x + length fs) (opened-in-length (z .format) (z .width) (z .height) speed) in
       let own : take end b ≡ top ++ fs = ap (take end) (i .bytes ∙ sym (append-assoc top fs (i .rest))) ∙ take-at (top ++ fs) (i .rest) end long in
       let same : take end b′ ≡ top ++ fs = ap (λ (n : ℕ). take n b′) (sym at) ∙ e ∙ ap (λ (n : ℕ). take n b) at ∙ own in
       record {

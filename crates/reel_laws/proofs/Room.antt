@@ -7,7 +7,7 @@ use native.Mathlib.Omega.{arith}
 use borrow.Author.Tests.{le-leb}
 use lib.ListN.{length}
 use Rattle.words.proofs.Tests.{by-test}
-use Rattle.format.specs.Limits.{sizeOk, area, maxFrames}
+use Rattle.format.specs.Limits.{sizeFits, area, maxFrames}
 use Rattle.format.specs.declared.Size.{Size}
 use Rattle.answer.specs.Answer.{done, refused, number}
 use Rattle.answer.specs.declared.Refusal.{Refusal}
@@ -57,8 +57,8 @@ module _ (z : Size) (speed : ℕ) {b : List ℕ} {r : Reel} {asked : List State}
   size-is : r .size ≡ z
   size-is = ap (λ (x : Reel). x .size) (i .is)
 
-  size-ok : sizeOk (r .size .width) (r .size .height) ≡ true
-  size-ok = ap (λ (x : Size). sizeOk (x .width) (x .height)) size-is ∙ i .size
+  size-ok : sizeFits (r .size) ≡ true
+  size-ok = ap (λ (x : Size). sizeFits x) size-is ∙ i .size
 
   add-fits : (s t : State) → NotThree (addFrame r b s t)
   add-fits s t =
@@ -89,7 +89,7 @@ module _ (z : Size) (speed : ℕ) {b : List ℕ} {r : Reel} where
       n : (r .end + frameMost ≤ length b) × (r .end + frameMost ≤ mostBytes)
       n = near z speed m room
 
-      sized : sizeOk (r .size .width) (r .size .height) ≡ true
+      sized : sizeFits (r .size) ≡ true
       sized = size-ok z speed m room
 
       same : r .size ≡ z

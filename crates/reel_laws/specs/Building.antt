@@ -3,11 +3,13 @@ use Prim.Native.Nat.{ℕ, suc, _+_, _*_, _≤_, _<_}
 use mathlib.Core.List.{List, [], _∷_, _++_}
 use mathlib.Core.Bool.{true}
 use mathlib.Core.Path.{_≡_}
-use mathlib.Core.Logic.{_⊎_}
 use lib.ListN.{length, take}
-use Rattle.words.specs.Words.{u32At, Bytes}
+use Rattle.words.specs.Words.{Bytes}
 use Rattle.format.specs.Limits.{area}
+use Rattle.format.specs.declared.Format.{Format}
+use Rattle.format.specs.declared.Format.the-variants.{Flc, Fli}
 use Rattle.format.specs.declared.Size.{Size}
+use Rattle.delay.specs.Delay.{milliseconds}
 use Rattle.answer.specs.Answer.{done, refused, number}
 use Rattle.answer.specs.declared.Refusal.the-variants.{NoRoom}
 use Rattle.state.specs.State.{State, blank, front, enough}
@@ -16,22 +18,28 @@ use Rattle.chunks.specs.declared.Layout.the-variants.{Loose}
 use Rattle.chunks.specs.Spans.{HEADER-BYTES, nextAt}
 use Rattle.chunks.specs.declared.Next.the-variants.{Frame}
 use Rattle.house_frame.specs.House.{frameMost}
-use Rattle.reel_header.specs.Head.{SPEED-AT, FINISHED, headOf}
+use Rattle.reel_header.specs.Head.{delayIn, headOf}
+use Rattle.reel_header.specs.declared.Takes.the-variants.{Both}
 use Rattle.reel_header.specs.declared.Head.the-variants as head
-use Rattle.reel_header.specs.Written.{fileHeader}
+use Rattle.reel_header.specs.Written.{headerIn}
 use Rattle.reel_check.specs.Check.{checkReel}
 use Rattle.reel_build.specs.declared.Reel.{Reel}
-use Rattle.reel_build.specs.Record.{reelOf, builds}
-use Rattle.reel_build.specs.Building.{openReel, addFrame}
+use Rattle.reel_build.specs.Record.{reelOf, ReelOutcome, builds}
+use Rattle.reel_build.specs.Building.{openReel, openFli, addFrame}
 use Rattle.reel_close.specs.Closing.{closeReel}
 use Rattle.reel_laws.specs.Laps.{lastOf, Reads, LeadsBack}
 
-module _ (z : Size) (speed : ℕ) where
+-- an open by the format: an FLC's is told the delay in milliseconds, an FLI's in jiffies
+abbrev pub openIn : Format → ℕ → ℕ → ℕ → List ℕ → ReelOutcome
+openIn Flc w h delay b = openReel w h (milliseconds delay) b
+openIn Fli w h delay b = openFli w h delay b
+
+module _ (z : Size) (delay : ℕ) where
   -- Bytes and a record that came from an open and adds, "no byte or record .. altered" in between, "each accepted add .. handed the one the last
   -- accepted add asked for, blank at first"; the list: the states asked for by the accepted adds, in order. A picture's bytes are bytes, as in every
   -- lent slice.
   pub data Making : List ℕ → Reel → List State → Type 0 where
-    opening : (b : List ℕ) {b′ : List ℕ} {r : Reel} → openReel z speed b ≡ builds r (leaves (done []) (lentBytes b′)) → Making b′ r []
+    opening : (b : List ℕ) {b′ : List ℕ} {r : Reel} → openIn (z .format) (z .width) (z .height) delay b ≡ builds r (leaves (done []) (lentBytes b′)) → Making b′ r []
     adding : {b b′ : List ℕ} {r r′ : Reel} {asked : List State} → Making b r asked → (shown next : State) → Bytes (next .picture)
         → front (area z) shown ≡ lastOf (blank (area z)) asked → addFrame r b shown next ≡ builds r′ (leaves (done []) (lentBytes b′))
         → Making b′ r′ (asked ++ (front (area z) next ∷ []))
@@ -48,10 +56,9 @@ module _ (z : Size) (speed : ℕ) where
     pub record-is : r ≡ reelOf z (suc (length rest)) (r .end) true
     -- the header, field by field
     pub second : ℕ
-    pub header : take HEADER-BYTES b ≡ fileHeader (r .end) (suc (length rest)) (z .width) (z .height) FINISHED speed HEADER-BYTES second
-    pub header-read : headOf b ≡ head.Reel (z .width) (z .height) (suc (length rest)) (r .end) (u32At b SPEED-AT)
+    pub header : take HEADER-BYTES b ≡ headerIn (z .format) (r .end) (suc (length rest)) (z .width) (z .height) delay second
     -- "Speed is the caller's", a number of 32 bits
-    pub speed-is : speed < 4294967296 → u32At b SPEED-AT ≡ speed
+    pub header-read : delay < 4294967296 → headOf Both b ≡ head.Reel z (suc (length rest)) (r .end) (delayIn (z .format) delay)
     -- "oframe1 128, oframe2 the second frame chunk (the ring, if there is one frame)"
     pub oframe1-is : nextAt Loose b HEADER-BYTES ≡ Frame HEADER-BYTES second
     pub third : ℕ
@@ -69,14 +76,6 @@ reelMost frames = HEADER-BYTES + suc frames * frameMost
 pub record RoomEnough (z : Size) (b : List ℕ) (r : Reel) (asked : List State) : Type 0 where
   pub adds : reelMost (length asked) ≤ length b → (shown next : State) (place : ℕ) → addFrame r b shown next .left .said ≡ refused (number NoRoom) place → ⊥
   pub closes : reelMost (length asked) ≤ length b → (first second : State) (place : ℕ) → closeReel r b first second .left .said ≡ refused (number NoRoom) place → ⊥
-
--- a byte of the header that lies in none of the fields that a close sets: size, frames, flags, both oframes
-pub record Other (i : ℕ) : Type 0 where
-  pub in-header : i < HEADER-BYTES
-  pub not-size : 4 ≤ i
-  pub not-frames : (i < 6) ⊎ (8 ≤ i)
-  pub not-flags : (i < 14) ⊎ (16 ≤ i)
-  pub not-oframes : (i < 80) ⊎ (88 ≤ i)
 
 -- A file that every lap of which shows the same: b the file that a close has made, r its record.
 pub record ClosedFile (b : List ℕ) (r : Reel) : Type 0 where

@@ -11,7 +11,9 @@ use Rattle.format.specs.declared.Size.{Size}
 use Rattle.answer.specs.Answer.{told}
 use Rattle.state.specs.Outcome.{lentPair, leaves}
 use Rattle.read_frame.specs.Reading.{readFrame}
+use Rattle.delay.specs.declared.Milliseconds.{Milliseconds}
 use Rattle.reel_header.specs.Head.{headOf}
+use Rattle.reel_header.specs.declared.Takes.the-variants.{Both}
 use Rattle.chunks.specs.declared.Layout.{Layout}
 use Rattle.chunks.specs.declared.Layout.the-variants.{Loose}
 use Rattle.chunks.specs.Spans.{HEADER-BYTES, Span, frameSpans, nextAt}
@@ -68,8 +70,8 @@ pub record LeadsBack (b : List ℕ) : Type 0 where
   pub picture : Size
   pub count : ℕ
   pub size : ℕ
-  pub speed : ℕ
-  pub head : headOf b ≡ Reel (picture .width) (picture .height) count size speed
+  pub speed : Milliseconds
+  pub head : headOf Both b ≡ Reel picture count size speed
   pub one : State
   pub middle : List State
   pub many : suc (length middle) ≡ count

@@ -1,21 +1,23 @@
 -- Lists that begin alike: their words and their file headers are the same.
-use mathlib.Core.Path.{_≡_, refl, sym, ap, ap₂, _∙_, subst}
+use mathlib.Core.Path.{_≡_, refl, sym, ap, ap₂, _∙_}
 use mathlib.Core.List.{List}
+use mathlib.Core.Bool.{true}
 use Prim.Native.Nat.{ℕ, _+_, _*_, _≤_, _<_}
 use native.Mathlib.Omega.{arith}
 use borrow.Author.Tests.{le-leb}
-use lib.Dec.{leb, eqb}
 use lib.ListN.{length, take, getD}
 use lib.Seq.{getD-take}
 use Rattle.words.specs.Words.{u16At, u32At}
-use Rattle.format.specs.Limits.{sizeOk}
-use Rattle.format.specs.Format.{FLC-MAGIC}
-use Rattle.words.proofs.Tests.{cond-holds}
+use Rattle.format.specs.declared.Format.{Format}
+use Rattle.format.specs.declared.Format.the-variants.{Flc, Fli}
+use Rattle.format.specs.declared.Size.{Size}
+use Rattle.delay.specs.declared.Milliseconds.{Milliseconds}
 use Rattle.chunks.specs.Spans.{HEADER-BYTES}
-use Rattle.reel_header.specs.Head.{SIZE-AT, MAGIC-AT, FRAMES-AT, WIDTH-AT, HEIGHT-AT, DEPTH-AT, FLAGS-AT, SPEED-AT, formOk, headOf}
+use Rattle.reel_header.specs.Head.{SIZE-AT, MAGIC-AT, FRAMES-AT, WIDTH-AT, HEIGHT-AT, DEPTH-AT, FLAGS-AT, SPEED-AT, delayIn, delayAt, formatAt, sizeAt, headOf}
+use Rattle.reel_header.specs.declared.Takes.{Takes}
 use Rattle.reel_header.specs.declared.Head.{Head}
 use Rattle.reel_header.specs.declared.Head.the-variants.{Fault, Reel}
-use Rattle.reel_header.proofs.Laws.{head-in}
+use Rattle.reel_header.proofs.Laws.{ReelIn, Gives, head-is, head-by, head-in}
 
 -- words
 
@@ -36,27 +38,29 @@ module _ (b c : List ℕ) (n : ℕ) (e : take n c ≡ take n b) where
 -- its size is the first word
 abbrev SizeIs : ℕ → Head → Type 0
 SizeIs s (Fault e) = Unit {0}
-SizeIs s (Reel w h frames size speed) = s ≡ size
+SizeIs s (Reel z frames size speed) = s ≡ size
 
-pub head-word : (b : List ℕ) (w h frames size speed : ℕ) → headOf b ≡ Reel w h frames size speed → u32At b SIZE-AT ≡ size
-unfolding headOf
-head-word b w h frames size speed k =
-    subst (SizeIs (u32At b SIZE-AT)) k
-    (cond-holds (SizeIs (u32At b SIZE-AT)) (leb HEADER-BYTES (length b)) _ _
-    (cond-holds (SizeIs (u32At b SIZE-AT)) (eqb (u16At b MAGIC-AT) FLC-MAGIC) _ _
-    (cond-holds (SizeIs (u32At b SIZE-AT)) (leb HEADER-BYTES (u32At b SIZE-AT)) _ _
-    (cond-holds (SizeIs (u32At b SIZE-AT)) (leb (u32At b SIZE-AT) (length b)) _ _
-    (cond-holds (SizeIs (u32At b SIZE-AT)) (sizeOk (u16At b WIDTH-AT) (u16At b HEIGHT-AT)) _ _
-    (cond-holds (SizeIs (u32At b SIZE-AT)) (formOk (u16At b DEPTH-AT) (u16At b FRAMES-AT) (u16At b FLAGS-AT)) _ _ refl tt) tt) tt) tt) tt) tt)
+module _ (takes : Takes) (b : List ℕ) (z : Size) (frames size : ℕ) (speed : Milliseconds) (k : headOf takes b ≡ Reel z frames size speed) where
+  pub head-word : u32At b SIZE-AT ≡ size
+  head-word = head-by takes b (SizeIs (u32At b SIZE-AT)) (λ e. tt) (λ p. refl) (Reel z frames size speed) k
 
-pub head-front : (b c : List ℕ) (w h frames size speed : ℕ) → headOf b ≡ Reel w h frames size speed → take size c ≡ take size b → size ≤ length c → headOf c ≡ Reel w h frames size speed
-unfolding headOf
-head-front b c w h frames size speed k e l =
-    let i = head-in b _ k in
-    let least = i .least in
-    let most = i .most in
-    let s = head-word b w h frames size speed k in
-    let word = front-word b c size e in
-    let alike : headOf c ≡ headOf b =
-    simp (front-word32 b c size e SIZE-AT (omega arith), front-word32 b c size e SPEED-AT (omega arith), word MAGIC-AT (omega arith), word FRAMES-AT (omega arith), word WIDTH-AT (omega arith), word HEIGHT-AT (omega arith), word DEPTH-AT (omega arith), word FLAGS-AT (omega arith), le-leb HEADER-BYTES (length c) (omega arith), le-leb HEADER-BYTES (length b) (omega arith), le-leb (u32At b SIZE-AT) (length c) (omega arith), le-leb (u32At b SIZE-AT) (length b) (omega arith)) in
-    alike ∙ k
+  pub head-front : (c : List ℕ) → take size c ≡ take size b → size ≤ length c → headOf takes c ≡ Reel z frames size speed
+  head-front c e l = head-by takes b (Gives takes c) (λ e. tt) (λ p.
+      sym (head-is takes c _ _ (sizeAt b) _ _ _ (delayAt (formatAt b) b) true true true true true true
+      (word MAGIC-AT (omega arith)) (word32 SIZE-AT (omega arith)) (rw (word MAGIC-AT (omega arith), word WIDTH-AT (omega arith), word HEIGHT-AT (omega arith)))
+      (word FRAMES-AT (omega arith)) (word DEPTH-AT (omega arith)) (word FLAGS-AT (omega arith)) (delay (formatAt b))
+      (le-leb HEADER-BYTES (length c) (omega (arith, inside .least))) (p .magic) (p .least) (le-leb (u32At b SIZE-AT) (length c) (omega (arith, head-word))) (p .sized) (p .form)))
+      (Reel z frames size speed) k
+    where
+      inside : ReelIn b z frames size
+      inside = head-in takes b _ k
+
+      word : (i : ℕ) → i + 2 ≤ HEADER-BYTES → u16At b i ≡ u16At c i
+      word i h = sym (front-word b c size e i (omega (arith, inside .least)))
+
+      word32 : (i : ℕ) → i + 4 ≤ HEADER-BYTES → u32At b i ≡ u32At c i
+      word32 i h = sym (front-word32 b c size e i (omega (arith, inside .least)))
+
+      delay : (f : Format) → delayAt f b ≡ delayAt f c
+      delay Flc = ap (delayIn Flc) (word32 SPEED-AT (omega arith))
+      delay Fli = ap (delayIn Fli) (word SPEED-AT (omega arith))

@@ -12,6 +12,8 @@ use lib.Seq.{length-take-le, take-all, take-at, drop-drop}
 use Rattle.words.specs.Words.{part, le16, le32, same}
 use Rattle.words.specs.Writes.{put}
 use Rattle.words.proofs.Laws.{put-front, length-put, span-length, span-back, put-nil, put-append, put-then}
+use Rattle.format.specs.declared.Size.{Size}
+use Rattle.delay.specs.declared.Milliseconds.{Milliseconds}
 use Rattle.answer.specs.Answer.{done, refused, number}
 use Rattle.format.specs.Limits.{maxFrames}
 use Rattle.answer.specs.declared.Refusal.{Refusal}
@@ -24,6 +26,7 @@ use Rattle.chunks.specs.declared.Extent.{Extent}
 use Rattle.chunks.specs.declared.Extent.the-variants as extent-is
 use Rattle.chunks.proofs.Spans.{answerOf, extent-answer, found-many}
 use Rattle.reel_header.specs.Head.{headOf}
+use Rattle.reel_header.specs.declared.Takes.the-variants.{FlcOnly}
 use Rattle.reel_header.specs.declared.Head.the-variants as head
 use Rattle.reel_header.proofs.Laws.{head-in}
 use Rattle.reel_trailer.specs.Trailer.{index, trailerOf, TrailerWalk, stopped, reel, afterFrames, afterHead, trailerWalk, checkedAfter, checkTrailer, writtenAfter, writeTrailer}
@@ -150,12 +153,12 @@ module _ (os : List ℕ) (count : ℕ) (d x₁ x₂ x₃ x₄ : List ℕ) where
 
 -- trailerWalk
 
-pub walk-fault : (b : List ℕ) (e : Refusal) → headOf b ≡ head.Fault e → trailerWalk b ≡ stopped e 0
+pub walk-fault : (b : List ℕ) (e : Refusal) → headOf FlcOnly b ≡ head.Fault e → trailerWalk b ≡ stopped e 0
 unfolding trailerWalk
 walk-fault b e k = ap (afterHead b) k
 
 -- n and m: the length of the range up to the size, and the number of frames with the ring, as the code has them
-module _ (b : List ℕ) (w h frames size speed : ℕ) (k : headOf b ≡ head.Reel w h frames size speed) (n m : ℕ) (en : n ≡ size) (em : m ≡ suc frames) where
+module _ (b : List ℕ) (z : Size) (frames size : ℕ) (speed : Milliseconds) (k : headOf FlcOnly b ≡ head.Reel z frames size speed) (n m : ℕ) (en : n ≡ size) (em : m ≡ suc frames) where
   abbrev after : Answer → TrailerWalk
   after = afterFrames size (topFrames (take n b) m HEADER-BYTES .offsets)
 
@@ -172,7 +175,7 @@ module _ (b : List ℕ) (w h frames size speed : ℕ) (k : headOf b ≡ head.Ree
 
   pub walked-in : (end : ℕ) → extent (take n b) m HEADER-BYTES ≡ extent-is.End end → Walked (take n b) m
   walked-in end q =
-      let i = head-in b _ k in
+      let i = head-in FlcOnly b _ k in
       record {
         long = omega (arith, i .least, length-take-le n b (omega (arith, i .most)));
         few = omega (arith, i .few-frames);

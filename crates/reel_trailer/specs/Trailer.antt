@@ -14,6 +14,7 @@ use Rattle.answer.specs.declared.Answer.the-variants.{Done, Refused}
 use Rattle.state.specs.Outcome.{Outcome, lentBytes, leaves, refuse}
 use Rattle.chunks.specs.Spans.{HEADER-BYTES, Found, topFrames}
 use Rattle.reel_header.specs.Head.{headOf}
+use Rattle.reel_header.specs.declared.Takes.the-variants.{FlcOnly}
 use Rattle.reel_header.specs.declared.Head.{Head}
 use Rattle.reel_header.specs.declared.Head.the-variants.{Fault, Reel}
 
@@ -43,11 +44,12 @@ framesOf bytes frames size = topFrames (take size bytes) (suc frames) HEADER-BYT
 
 abbrev pub afterHead : List ℕ → Head → TrailerWalk
 afterHead bytes (Fault e) = stopped e 0
-afterHead bytes (Reel width height frames size speed) = afterFrames size (framesOf bytes frames size .offsets) (framesOf bytes frames size .answer)
+afterHead bytes (Reel picture frames size speed) = afterFrames size (framesOf bytes frames size .offsets) (framesOf bytes frames size .answer)
 
+-- "trailers and later work that checks a trailer stay FLC" (document 02, Req 06)
 unfoldable pub trailerWalk : List ℕ → TrailerWalk
 unfolding headOf topFrames trailerOf
-trailerWalk bytes = afterHead bytes (headOf bytes)
+trailerWalk bytes = afterHead bytes (headOf FlcOnly bytes)
 
 -- "No bytes after the size is also right. All else is 17"
 abbrev pub checkedAfter : List ℕ → TrailerWalk → Said

@@ -18,6 +18,7 @@ use chunks::HEADER_BYTES;
 use chunks::Next;
 use format::MAX_FRAMES;
 use reel_header::Head;
+use reel_header::Takes;
 
 // The most bytes of an index and its trailer: 4 for each of the most frames and the ring, and 8.
 const TRAILER_MOST: usize = 4 * (MAX_FRAMES + 1) + 8;
@@ -83,11 +84,10 @@ fn same_trailer(rest: &[u8], b: &[u8], count: usize) -> bool
 pub fn check_trailer(bytes: &[u8]) -> Answer
     ensures { λ r. ⌜ told r ≡ checkTrailer (now (bytes .entry)) ⌝ }
 {
-    match reel_header::head_of(bytes) {
+    match reel_header::head_of(Takes::FlcOnly, bytes) {
         Head::Fault(e) => Answer::Refused(e, 0),
         Head::Reel {
-            width: _,
-            height: _,
+            picture: _,
             frames,
             size,
             speed: _,
@@ -110,11 +110,10 @@ pub fn check_trailer(bytes: &[u8]) -> Answer
 pub fn write_trailer(bytes: &mut [u8]) -> Written
     ensures { λ r. ⌜ leaves (toldWritten r) (lentBytes (now (bytes .exit))) ≡ writeTrailer (now (bytes .entry)) ⌝ }
 {
-    match reel_header::head_of(bytes) {
+    match reel_header::head_of(Takes::FlcOnly, bytes) {
         Head::Fault(e) => Written::Refused(e, 0),
         Head::Reel {
-            width: _,
-            height: _,
+            picture: _,
             frames,
             size,
             speed: _,

@@ -12,7 +12,7 @@ use Rattle.words.specs.Writes.{put}
 use Rattle.words.proofs.Tests.{both-true}
 use Rattle.answer.specs.Answer.{Said, done, refused}
 use Rattle.answer.specs.declared.Refusal.the-variants.{NoRoom}
-use Rattle.format.specs.Limits.{area, sizeOk}
+use Rattle.format.specs.Limits.{area, sizeFits}
 use Rattle.format.specs.declared.Size.{Size}
 use Rattle.format.proofs.Laws.{size-in}
 use Rattle.state.specs.State.{State, enough, front, Exact}
@@ -29,11 +29,11 @@ pub enough-is : (n : ℕ) (s : State) → n ≤ length (s .picture) → 768 ≤ 
 enough-is n s h k = rw (le-leb n (length (s .picture)) h, le-leb 768 (length (s .palette)) k)
 
 -- the front, m long, of a pair that is long enough, of a size in range
-pub front-exact : (z : Size) (s : State) → sizeOk (z .width) (z .height) ≡ true → (m : ℕ) → m ≡ area z → enough (area z) s ≡ true → Exact z (front m s)
+pub front-exact : (z : Size) (s : State) → sizeFits z ≡ true → (m : ℕ) → m ≡ area z → enough (area z) s ≡ true → Exact z (front m s)
 front-exact z s k m e i =
     let n = enough-in (area z) s i in
     record {
-      picture = record { size = size-in (z .width) (z .height) k; pixels = length-take-le m (s .picture) (omega (arith, n .0)) ∙ e };
+      picture = record { size = size-in z k; pixels = length-take-le m (s .picture) (omega (arith, n .0)) ∙ e };
       colours = length-take-le 768 (s .palette) (n .1);
     }
 

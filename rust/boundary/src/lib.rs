@@ -12,6 +12,10 @@ pub const FRAME_MOST: usize = 65_310;
 /// No listing has more bytes.
 pub const LIST_MOST: usize = 218_047;
 
+/// The formats by their numbers: as a parameter any number but 0 is FLI, in an answer it is one of these.
+pub const FLC: u32 = 0;
+pub const FLI: u32 = 1;
+
 /// Done where the number is 0, else refused, with the place of what is at fault.
 #[repr(C)]
 #[derive(Clone, Copy, Debug, Default, PartialEq, Eq)]
@@ -38,6 +42,7 @@ pub struct Reel {
     pub frames: u64,
     pub end: u64,
     pub closed: u32,
+    pub format: u32,
 }
 
 /// An answer, and the record that goes with it.
@@ -60,6 +65,7 @@ pub struct Header {
     pub frames: u64,
     pub size: u64,
     pub speed: u32,
+    pub format: u32,
 }
 
 /// An answer, and where a frame stands.
@@ -70,6 +76,15 @@ pub struct Span {
     pub place: u64,
     pub from: u64,
     pub end: u64,
+}
+
+/// An answer, and a delay in the other unit.
+#[repr(C)]
+#[derive(Clone, Copy, Debug, Default, PartialEq, Eq)]
+pub struct Delay {
+    pub number: u32,
+    pub place: u64,
+    pub delay: u32,
 }
 
 /// An answer, the bytes of a row's packets, and the turns that the search for them took.
@@ -94,6 +109,7 @@ pub struct Player {
     pub first_end: u64,
     pub speed: u32,
     pub last: u32,
+    pub format: u32,
 }
 
 /// An answer, and the player that was started.
@@ -140,6 +156,7 @@ extern "C" {
     fn flic_read_frame(
         bytes: *const u8,
         bytes_len: usize,
+        format: u32,
         width: u64,
         height: u64,
         picture: *mut u8,
@@ -149,6 +166,7 @@ extern "C" {
     ) -> Answer;
 
     fn flic_write_frame(
+        format: u32,
         width: u64,
         height: u64,
         previous_picture: *const u8,
@@ -166,6 +184,7 @@ extern "C" {
     fn flic_rewrite_frame(
         bytes: *const u8,
         bytes_len: usize,
+        format: u32,
         width: u64,
         height: u64,
         previous_picture: *const u8,
@@ -194,6 +213,8 @@ extern "C" {
     ) -> Answer;
 
     fn flic_open_reel(width: u64, height: u64, speed: u32, bytes: *mut u8, bytes_len: usize) -> ReelAnswer;
+
+    fn flic_open_fli(width: u64, height: u64, jiffies: u32, bytes: *mut u8, bytes_len: usize) -> ReelAnswer;
 
     fn flic_add_frame(
         reel: Reel,
@@ -234,6 +255,10 @@ extern "C" {
     fn flic_read_header(bytes: *const u8, bytes_len: usize) -> Header;
 
     fn flic_next_frame(bytes: *const u8, bytes_len: usize, at: u64) -> Span;
+
+    fn flic_in_milliseconds(jiffies: u32) -> Delay;
+
+    fn flic_in_jiffies(milliseconds: u32) -> Delay;
 
     fn flic_start_player(
         bytes: *const u8,
@@ -301,11 +326,12 @@ fn apart<'a>(slice: &'a [u8], others: &[&[u8]]) -> Cow<'a, [u8]> {
 // be changed is lent alone, and slices that are only looked at are kept apart by `apart` where a caller could make
 // them overlap.
 
-pub fn read_frame(bytes: &[u8], width: u64, height: u64, shown: PairMut) -> Answer {
+pub fn read_frame(bytes: &[u8], format: u32, width: u64, height: u64, shown: PairMut) -> Answer {
     unsafe {
         flic_read_frame(
             bytes.as_ptr(),
             bytes.len(),
+            format,
             width,
             height,
             shown.picture.as_mut_ptr(),
@@ -316,11 +342,12 @@ pub fn read_frame(bytes: &[u8], width: u64, height: u64, shown: PairMut) -> Answ
     }
 }
 
-pub fn write_frame(width: u64, height: u64, previous: Pair, next: Pair, out: &mut [u8]) -> Written {
+pub fn write_frame(format: u32, width: u64, height: u64, previous: Pair, next: Pair, out: &mut [u8]) -> Written {
     let picture = apart(next.picture, &[previous.picture]);
     let palette = apart(next.palette, &[previous.palette]);
     unsafe {
         flic_write_frame(
+            format,
             width,
             height,
             previous.picture.as_ptr(),
@@ -337,12 +364,21 @@ pub fn write_frame(width: u64, height: u64, previous: Pair, next: Pair, out: &mu
     }
 }
 
-pub fn rewrite_frame(bytes: &[u8], width: u64, height: u64, previous: Pair, work: PairMut, out: &mut [u8]) -> Written {
+pub fn rewrite_frame(
+    bytes: &[u8],
+    format: u32,
+    width: u64,
+    height: u64,
+    previous: Pair,
+    work: PairMut,
+    out: &mut [u8],
+) -> Written {
     let bytes = apart(bytes, &[previous.picture, previous.palette]);
     unsafe {
         flic_rewrite_frame(
             bytes.as_ptr(),
             bytes.len(),
+            format,
             width,
             height,
             previous.picture.as_ptr(),
@@ -378,6 +414,10 @@ pub fn check_reel(bytes: &[u8], first: PairMut, second: PairMut) -> Answer {
 
 pub fn open_reel(width: u64, height: u64, speed: u32, bytes: &mut [u8]) -> ReelAnswer {
     unsafe { flic_open_reel(width, height, speed, bytes.as_mut_ptr(), bytes.len()) }
+}
+
+pub fn open_fli(width: u64, height: u64, jiffies: u32, bytes: &mut [u8]) -> ReelAnswer {
+    unsafe { flic_open_fli(width, height, jiffies, bytes.as_mut_ptr(), bytes.len()) }
 }
 
 pub fn add_frame(reel: Reel, bytes: &mut [u8], shown: Pair, next: Pair) -> ReelAnswer {
@@ -440,6 +480,14 @@ pub fn read_header(bytes: &[u8]) -> Header {
 
 pub fn next_frame(bytes: &[u8], at: u64) -> Span {
     unsafe { flic_next_frame(bytes.as_ptr(), bytes.len(), at) }
+}
+
+pub fn in_milliseconds(jiffies: u32) -> Delay {
+    unsafe { flic_in_milliseconds(jiffies) }
+}
+
+pub fn in_jiffies(milliseconds: u32) -> Delay {
+    unsafe { flic_in_jiffies(milliseconds) }
 }
 
 pub fn start_player(bytes: &[u8], now: u32, first: PairMut, second: PairMut) -> PlayerAnswer {
@@ -508,6 +556,7 @@ mod tests {
         let header = include_str!("../../../include/flic.h");
         assert!(header.contains(&format!("#define FLIC_FRAME_MOST {FRAME_MOST}\n")));
         assert!(header.contains(&format!("#define FLIC_LIST_MOST {LIST_MOST}\n")));
+        assert!(header.contains(&format!("#define FLIC_FLC {FLC}\n#define FLIC_FLI {FLI}\n")));
     }
 
     #[test]

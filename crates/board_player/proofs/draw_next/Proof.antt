@@ -1,63 +1,83 @@
 -- `draw_next` meets its contract: the checks stand in the order of the paper, and the frame is played at the pair's front only where all of them held.
-use Rattle.board_player.proofs.Laws.{record-past, record-none, record-over, record-fits, draw-size, draw-short, draw-record, draw-one}
-use Rattle.state.proofs.Laws.{enough-in, front-exact}
-use Rattle.state.specs.State.{state, enough}
-use Rattle.format.proofs.Laws.{size-in}
-use Rattle.format.specs.Limits.{sizeOk, sizeOf}
-use borrow.Author.Tests.{not-true, not-false}
-use native.Mathlib.Omega.{arith}
-use Prim.Native.Nat.{_*_, _-_}
-use mathlib.Core.Bool.{true}
 use mathlib.Core.Path.{_≡_, sym, _∙_}
+use mathlib.Core.Bool.{true}
+use Prim.Native.Nat.{_-_}
+use native.Mathlib.Omega.{arith}
+use borrow.Author.Tests.{not-true, not-false}
 use borrow.Author.Needs.{needs}
+use Rattle.format.specs.Limits.{sizeFits, area}
+use Rattle.format.proofs.Laws.{size-in}
+use Rattle.state.specs.State.{state, enough}
+use Rattle.state.proofs.Laws.{enough-in, front-exact}
+use Rattle.board_player.proofs.Laws.{record-past, record-none, record-over, record-fits, draw-size, draw-short, draw-record, draw-one}
 use Rattle.board_player.proofs.draw_next.Statement.{statement}
 use Rattle.board_player.proofs.draw_next.Tie as tie
 
 -- the record's size is a picture's
-sized : (c : tie.Else1) → sizeOk (c .before .before .before .before .before .args .player .width) (c .before .before .before .before .before .args .player .height) ≡ true
-sized c = sym (c .before .size-ok .ensures) ∙ not-false _ (c .if1 .left)
+sized : (c : tie.Else1) → sizeFits (c .before .before .size-of .result) ≡ true
+sized c = sym (c .before .size-fits .ensures) ∙ not-false _ (c .if1 .left)
 
 -- the pair is long enough
-room : (c : tie.Else2) → enough (c .before .before .before .before .before .before .before .args .player .width * c .before .before .before .before .before .before .before .args .player .height) (state (c .before .before .before .before .before .before .before .args .picture .now) (c .before .before .before .before .before .before .before .args .palette .now)) ≡ true
+room : (c : tie.Else2) → enough (area (c .before .before .before .before .before .size-of .result)) (state (c .before .before .before .before .before .before .before .before .before .args .picture .now) (c .before .before .before .before .before .before .before .before .before .args .palette .now)) ≡ true
 room c = sym (c .before .holds .ensures) ∙ not-false _ (c .if2 .left)
 
 returns : tie.Need-returns
-returns c = draw-size (c .before .before .before .before .before .args .player) (c .before .before .before .before .before .args .bytes .now) (state (c .before .before .before .before .before .args .picture .now) (c .before .before .before .before .before .args .palette .now)) (sym (c .before .size-ok .ensures) ∙ not-true _ (c .if1 .taken))
+returns c =
+    let a = c .before .before .before .before .before .before .args in
+    draw-size (a .player) (a .bytes .now) (state (a .picture .now) (a .palette .now)) (c .before .before .size-of .result) (c .before .before .size-of .ensures) (sym (c .before .size-fits .ensures) ∙ not-true _ (c .if1 .taken))
 
 mul-n : tie.Need-mul-n
-mul-n c = omega (arith, size-in (c .before .before .before .before .before .args .player .width) (c .before .before .before .before .before .args .player .height) (sized c) .area)
+mul-n c = omega (arith, size-in (c .before .before .before .size-of .result) (sized (c .before)) .area)
 
 returns-2 : tie.Need-returns-2
-returns-2 c = draw-short (c .before .before .before .before .before .before .before .args .player) (c .before .before .before .before .before .before .before .args .bytes .now) (state (c .before .before .before .before .before .before .before .args .picture .now) (c .before .before .before .before .before .before .before .args .palette .now)) (sized ((c .before .before))) (sym (c .before .holds .ensures) ∙ not-true _ (c .if2 .taken))
+returns-2 c =
+    let a = c .before .before .before .before .before .before .before .before .before .args in
+    draw-short (a .player) (a .bytes .now) (state (a .picture .now) (a .palette .now)) (c .before .before .before .before .before .size-of .result) (c .before .before .before .before .before .size-of .ensures) (sized (c .before .before .before)) (sym (c .before .holds .ensures) ∙ not-true _ (c .if2 .taken))
 
 returns-3 : tie.Need-returns-3
-returns-3 c = draw-record (c .before .before .before .before .before .before .before .before .args .player) (c .before .before .before .before .before .before .before .before .args .bytes .now) (state (c .before .before .before .before .before .before .before .before .args .picture .now) (c .before .before .before .before .before .before .before .before .args .palette .now)) (sized ((c .before .before .before))) (room ((c .before))) (record-past (c .before .before .before .before .before .before .before .before .args .player) (c .before .before .before .before .before .before .before .before .args .bytes .now) (c .if3 .taken))
+returns-3 c =
+    let a = c .before .before .before .before .before .before .before .before .before .before .args in
+    draw-record (a .player) (a .bytes .now) (state (a .picture .now) (a .palette .now)) (c .before .before .before .before .before .before .size-of .result) (c .before .before .before .before .before .before .size-of .ensures) (sized (c .before .before .before .before)) (room (c .before))
+    (record-past (a .player) (a .bytes .now) (c .if3 .taken))
 
 returns-4 : tie.Need-returns-4
-returns-4 c = draw-record (c .before .before .before .before .before .before .before .before .before .before .args .player) (c .before .before .before .before .before .before .before .before .before .before .args .bytes .now) (state (c .before .before .before .before .before .before .before .before .before .before .args .picture .now) (c .before .before .before .before .before .before .before .before .before .before .args .palette .now)) (sized ((c .before .before .before .before .before))) (room ((c .before .before .before))) (record-none (c .before .before .before .before .before .before .before .before .before .before .args .player) (c .before .before .before .before .before .before .before .before .before .before .args .bytes .now) (c .before .before .if3 .left) (c .if4 .taken))
+returns-4 c =
+    let a = c .before .before .before .before .before .before .before .before .before .before .before .before .args in
+    draw-record (a .player) (a .bytes .now) (state (a .picture .now) (a .palette .now)) (c .before .before .before .before .before .before .before .before .size-of .result) (c .before .before .before .before .before .before .before .before .size-of .ensures) (sized (c .before .before .before .before .before .before)) (room (c .before .before .before))
+    (record-none (a .player) (a .bytes .now) (c .before .before .if3 .left) (c .if4 .taken))
 
 returns-5 : tie.Need-returns-5
-returns-5 c = draw-record (c .before .before .before .before .before .before .before .before .before .before .before .before .before .args .player) (c .before .before .before .before .before .before .before .before .before .before .before .before .before .args .bytes .now) (state (c .before .before .before .before .before .before .before .before .before .before .before .before .before .args .picture .now) (c .before .before .before .before .before .before .before .before .before .before .before .before .before .args .palette .now)) (sized ((c .before .before .before .before .before .before .before .before))) (room ((c .before .before .before .before .before .before))) (record-over (c .before .before .before .before .before .before .before .before .before .before .before .before .before .args .player) (c .before .before .before .before .before .before .before .before .before .before .before .before .before .args .bytes .now) (c .before .before .before .before .before .if3 .left) (c .before .before .before .if4 .left) (omega (arith, c .if5 .taken)))
+returns-5 c =
+    let a = c .before .before .before .before .before .before .before .before .before .before .before .before .before .before .before .args in
+    draw-record (a .player) (a .bytes .now) (state (a .picture .now) (a .palette .now)) (c .before .before .before .before .before .before .before .before .before .before .before .size-of .result) (c .before .before .before .before .before .before .before .before .before .before .before .size-of .ensures) (sized (c .before .before .before .before .before .before .before .before .before)) (room (c .before .before .before .before .before .before))
+    (record-over (a .player) (a .bytes .now) (c .before .before .before .before .before .if3 .left) (c .before .before .before .if4 .left) (omega (arith, c .if5 .taken)))
 
 part-one-frame-end : tie.Need-part-one-frame-end
-part-one-frame-end c = enough-in (c .before .before .before .before .before .before .before .before .before .before .before .before .before .args .player .width * c .before .before .before .before .before .before .before .before .before .before .before .before .before .args .player .height) (state (c .before .before .before .before .before .before .before .before .before .before .before .before .before .args .picture .now) (c .before .before .before .before .before .before .before .before .before .before .before .before .before .args .palette .now)) (room ((c .before .before .before .before .before .before))) .0
+part-one-frame-end c = enough-in (area (c .before .before .before .before .before .before .before .before .before .before .before .size-of .result)) (state (c .before .before .before .before .before .before .before .before .before .before .before .before .before .before .before .args .picture .now) (c .before .before .before .before .before .before .before .before .before .before .before .before .before .before .before .args .palette .now)) (room (c .before .before .before .before .before .before)) .0
 
 part-one-frame-end-2 : tie.Need-part-one-frame-end-2
-part-one-frame-end-2 c = enough-in (c .before .before .before .before .before .before .before .before .before .before .before .before .before .before .args .player .width * c .before .before .before .before .before .before .before .before .before .before .before .before .before .before .args .player .height) (state (c .before .before .before .before .before .before .before .before .before .before .before .before .before .before .args .picture .now) (c .before .before .before .before .before .before .before .before .before .before .before .before .before .before .args .palette .now)) (room ((c .before .before .before .before .before .before .before))) .1
+part-one-frame-end-2 c = enough-in (area (c .before .before .before .before .before .before .before .before .before .before .before .before .size-of .result)) (state (c .before .before .before .before .before .before .before .before .before .before .before .before .before .before .before .before .args .picture .now) (c .before .before .before .before .before .before .before .before .before .before .before .before .before .before .before .before .args .palette .now)) (room (c .before .before .before .before .before .before .before)) .1
 
 one-frame-requires : tie.Need-one-frame-requires
-one-frame-requires c κs = (c .before .before .before .before .before .before .before .if3 .left, front-exact (sizeOf (c .before .before .before .before .before .before .before .before .before .before .before .before .before .before .before .args .player .width) (c .before .before .before .before .before .before .before .before .before .before .before .before .before .before .before .args .player .height)) (state (c .before .before .before .before .before .before .before .before .before .before .before .before .before .before .before .args .picture .now) (c .before .before .before .before .before .before .before .before .before .before .before .before .before .before .before .args .palette .now)) (sized ((c .before .before .before .before .before .before .before .before .before .before))) (c .before .before .before .before .before .before .before .before .before .before .before .before .before .before .before .args .player .width * c .before .before .before .before .before .before .before .before .before .before .before .before .before .before .before .args .player .height - 0) (omega arith) (room ((c .before .before .before .before .before .before .before .before))))
+one-frame-requires c κs =
+    let a = c .before .before .before .before .before .before .before .before .before .before .before .before .before .before .before .before .before .args in
+    let z = c .before .before .before .before .before .before .before .before .before .before .before .before .before .size-of .result in
+    (c .before .before .before .before .before .before .before .if3 .left, front-exact z (state (a .picture .now) (a .palette .now)) (sized (c .before .before .before .before .before .before .before .before .before .before .before)) (area z - 0) (omega arith) (room (c .before .before .before .before .before .before .before .before)))
 
 returns-6 : tie.Need-returns-6
 returns-6 c =
-    let a = c .before .before .before .before .before .before .before .before .before .before .before .before .before .before .before .before .before .before .before .before .args in
+    let a = c .before .before .before .before .before .before .before .before .before .before .before .before .before .before .before .before .before .before .before .before .before .before .args in
+    let z = c .before .before .before .before .before .before .before .before .before .before .before .before .before .before .before .before .before .before .size-of .result in
     let l = c .before .before .before .before .one-frame .last in
-    draw-one (a .player) (a .bytes .now) (state (a .picture .now) (a .palette .now)) (sized ((c .before .before .before .before .before .before .before .before .before .before .before .before .before .before .before))) (room ((c .before .before .before .before .before .before .before .before .before .before .before .before .before))) (record-fits (a .player) (a .bytes .now) (c .before .before .before .before .before .before .before .before .before .before .before .before .if3 .left) (c .before .before .before .before .before .before .before .before .before .before .if4 .left) (omega (arith, c .before .before .before .before .before .before .before .if5 .left, c .before .before .before .before .before .before .before .before .before .before .if4 .left))) (a .player .width * a .player .height - 0) (omega arith) (c .before .before .before .before .one-frame .result) (state (l .0) (l .1 .0)) (c .before .before .before .before .one-frame .ensures)
+    draw-one (a .player) (a .bytes .now) (state (a .picture .now) (a .palette .now)) z (c .before .before .before .before .before .before .before .before .before .before .before .before .before .before .before .before .before .before .size-of .ensures) (sized (c .before .before .before .before .before .before .before .before .before .before .before .before .before .before .before .before)) (room (c .before .before .before .before .before .before .before .before .before .before .before .before .before))
+    (record-fits (a .player) (a .bytes .now) (c .before .before .before .before .before .before .before .before .before .before .before .before .if3 .left) (c .before .before .before .before .before .before .before .before .before .before .if4 .left) (omega (arith, c .before .before .before .before .before .before .before .if5 .left, c .before .before .before .before .before .before .before .before .before .before .if4 .left)))
+    (area z - 0) (omega arith) (c .before .before .before .before .one-frame .result) (state (l .0) (l .1 .0)) (c .before .before .before .before .one-frame .ensures)
 
 pub draw-next-spec : {M : Type 1} → statement M
 draw-next-spec =
     tie.close
     (tie.spec
+    (λ c κs. search needs)
     (λ c κs. search needs)
     returns
     mul-n

@@ -15,26 +15,26 @@ use Rattle.board_player.proofs.step.Tie as tie
 
 returns : tie.Need-returns
 returns c =
-    let a = c .before .before .before .before .before .before .args in
+    let a = c .before .before .before .before .before .before .before .args in
     tick-by (a .player) (a .bytes .now) (a .reading) (state (a .picture .now) (a .palette .now)) (c .before .before .step .result) (c .before .before .step .ensures) Nothing (c .enum-told .given .1)
 
 returns-2 : tie.Need-returns-2
 returns-2 c =
-    let a = c .before .before .before .before .before .before .before .args in
+    let a = c .before .before .before .before .before .before .before .before .args in
     let s = state (a .picture .now) (a .palette .now) in
     ap (λ (p : Player). plays p (leaves (toldTick ticked.SetBack) (lentPair s))) (c .standing-at .ensures)
     ∙ tick-by (a .player) (a .bytes .now) (a .reading) s (c .before .before .before .step .result) (c .before .before .before .step .ensures) SetBack (c .before .enum-told2 .given .1)
 
 returns-3 : tie.Need-returns-3
 returns-3 c =
-    let a = c .before .before .before .before .before .before .before .before .before .before .before .before .before .before .before .before .args in
+    let a = c .before .before .before .before .before .before .before .before .before .before .before .before .before .before .before .before .before .args in
     let l = c .before .before .before .before .before .before .before .draw-next .last in
     let s = state (l .1 .1 .0) (l .1 .1 .1 .0) in
     tick-refused (a .player) (a .bytes .now) (a .reading) (state (a .picture .now) (a .palette .now)) (c .before .before .before .before .before .before .before .before .before .before .before .before .step .result) (c .before .before .before .before .before .before .before .before .before .before .before .before .step .ensures) (c .before .before .before .before .before .before .before .before .before .before .enum-told3 .given .1) _ _ s (ap (λ (r : Ran). ran r s) (sym (c .before .e .given .1)) ∙ c .before .before .before .before .before .before .before .draw-next .ensures)
 
 returns-4 : tie.Need-returns-4
 returns-4 c =
-    let a = c .before .before .before .before .before .before .before .before .before .before .before .before .before .before .before .before .before .before .args in
+    let a = c .before .before .before .before .before .before .before .before .before .before .before .before .before .before .before .before .before .before .before .args in
     let l = c .before .before .before .before .before .before .before .before .before .draw-next .last in
     let s = state (l .1 .1 .0) (l .1 .1 .1 .0) in
     ap (λ (p : Player). plays p (leaves (toldTick ticked.Drawn) (lentPair s))) (c .standing-at2 .ensures ∙ ap (standing (a .player) (c .before .before .before .before .before .before .before .before .before .before .before .before .before .before .step .result .stands)) (c .before .place-after .ensures))

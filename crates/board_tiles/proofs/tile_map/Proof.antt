@@ -5,7 +5,7 @@ use mathlib.Core.Bool.{true}
 use mathlib.Core.Path.{_≡_, sym, _∙_}
 use borrow.Author.Needs.{needs}
 use Rattle.state.proofs.Laws.{fitted-none, fitted-whole}
-use Rattle.format.proofs.Laws.{size-in}
+use Rattle.format.proofs.Laws.{size-ok-in}
 use Rattle.format.specs.Limits.{sizeOk, Sized}
 use Rattle.board_tiles.specs.Mapping.{tileWords}
 use Rattle.board_tiles.specs.Tiles.{tiles}
@@ -18,7 +18,7 @@ sized : (c : tie.Else1) → let a = c .before .before .before .before .before .a
 sized c = sym (c .before .size-ok .ensures) ∙ not-false _ (c .if1 .left)
 
 in-range : (c : tie.Else1) → let a = c .before .before .before .before .before .args in Sized (a .width) (a .height)
-in-range c = let a = c .before .before .before .before .before .args in size-in (a .width) (a .height) (sized c)
+in-range c = let a = c .before .before .before .before .before .args in size-ok-in (a .width) (a .height) (sized c)
 
 returns : tie.Need-returns
 returns c = let a = c .before .before .before .before .before .args in map-size (a .width) (a .height) (a .previous .now) (a .next .now) (a .words .now) (sym (c .before .size-ok .ensures) ∙ not-true _ (c .if1 .taken))

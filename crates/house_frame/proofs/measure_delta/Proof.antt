@@ -10,10 +10,10 @@ returns c = let a = c .before .before .before .before .args in delta-none (a .si
 
 returns-2 : tie.Need-returns-2
 returns-2 c =
-    let a = c .before .before .before .before .before .before .args in
-    delta-made (a .size) (a .previous .now) (a .next .now) (sym (c .before .before .before .same-bytes .ensures) ∙ c .before .before .if1 .left) (c .before .delta-size .result) (c .more-edges .result) (c .before .delta-size .ensures .0) (c .more-edges .ensures)
+    let a = c .before .before .before .before .before .before .before .args in
+    delta-made (a .size) (a .previous .now) (a .next .now) (sym (c .before .before .before .before .same-bytes .ensures) ∙ c .before .before .before .if1 .left) (c .before .before .delta-size .result) (c .delta-kind .result) (c .before .more-edges .result) (c .before .before .delta-size .ensures .0) (c .delta-kind .ensures) (c .before .more-edges .ensures)
 
 pub measure-delta-spec : {M : Type 1} → statement M
 measure-delta-spec =
     tie.close
-    (tie.spec (λ c κs. search needs) returns (λ c κs. search needs) (λ c κs. search needs) (λ c. search needs) returns-2)
+    (tie.spec (λ c κs. search needs) returns (λ c κs. search needs) (λ c κs. search needs) (λ c κs. search needs) (λ c. search needs) returns-2)

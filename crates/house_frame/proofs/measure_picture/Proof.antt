@@ -13,10 +13,10 @@ returns c =
 
 returns-2 : tie.Need-returns-2
 returns-2 c =
-    let a = c .before .before .before .before .before .before .before .before .args in
-    let f = c .before .before .before .before .measure-full in
-    (shorter-delta (a .size) (a .next .now) (a .delta) (omega (arith, f .ensures .1)), f .ensures .2)
+    let a = c .before .before .before .before .before .before .before .before .before .args in
+    let f = c .before .before .before .before .before .measure-full in
+    (shorter-delta (a .size) (a .next .now) (a .delta) (omega (arith, f .ensures .1)) (c .delta-kind .result) (c .delta-kind .ensures), f .ensures .2)
 
 pub measure-picture-spec : {M : Type 1} → statement M
 measure-picture-spec =
-    tie.close (tie.spec (λ c κs. search needs) (λ c. search needs) returns (λ c. search needs) returns-2)
+    tie.close (tie.spec (λ c κs. search needs) (λ c. search needs) returns (λ c κs. search needs) (λ c. search needs) returns-2)

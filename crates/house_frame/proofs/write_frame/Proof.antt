@@ -5,7 +5,7 @@ use Prim.Native.Nat.{_-_}
 use native.Mathlib.Omega.{arith}
 use borrow.Author.Tests.{not-true, not-false}
 use borrow.Author.Needs.{needs}
-use Rattle.format.specs.Limits.{area, sizeOk}
+use Rattle.format.specs.Limits.{area, sizeFits}
 use Rattle.format.proofs.Laws.{size-in}
 use Rattle.state.specs.State.{state, enough}
 use Rattle.state.proofs.Laws.{enough-in, front-exact}
@@ -14,8 +14,8 @@ use Rattle.house_frame.proofs.write_frame.Statement.{statement}
 use Rattle.house_frame.proofs.write_frame.Tie as tie
 
 -- the size is in range
-sized : (c : tie.Else1) → let z = c .before .before .before .before .before .before .before .args .size in sizeOk (z .width) (z .height) ≡ true
-sized c = sym (c .before .size-ok .ensures) ∙ not-false _ (c .if1 .left)
+sized : (c : tie.Else1) → let z = c .before .before .before .before .before .before .before .args .size in sizeFits z ≡ true
+sized c = sym (c .before .size-fits .ensures) ∙ not-false _ (c .if1 .left)
 
 -- the slices of the previous state, and of the next, are long enough
 previous : (c : tie.Else2) → let a = c .before .before .before .before .before .before .before .before .before .before .args in enough (area (a .size)) (state (a .previous-picture .now) (a .previous-palette .now)) ≡ true
@@ -27,10 +27,10 @@ next c = sym (c .before .holds2 .ensures) ∙ not-false _ (c .if3 .left)
 returns : tie.Need-returns
 returns c =
     let a = c .before .before .before .before .before .before .before .args in
-    write-size (a .size) (state (a .previous-picture .now) (a .previous-palette .now)) (state (a .next-picture .now) (a .next-palette .now)) (a .out .now) (sym (c .before .size-ok .ensures) ∙ not-true _ (c .if1 .taken))
+    write-size (a .size) (state (a .previous-picture .now) (a .previous-palette .now)) (state (a .next-picture .now) (a .next-palette .now)) (a .out .now) (sym (c .before .size-fits .ensures) ∙ not-true _ (c .if1 .taken))
 
 mul-n : tie.Need-mul-n
-mul-n c = let z = c .before .before .before .before .before .before .before .before .args .size in omega (arith, size-in (z .width) (z .height) (sized (c .before)) .area)
+mul-n c = let z = c .before .before .before .before .before .before .before .before .args .size in omega (arith, size-in z (sized (c .before)) .area)
 
 returns-2 : tie.Need-returns-2
 returns-2 c =

@@ -1,5 +1,6 @@
 -- Invariant: the first j units are equal to unit v, and the count goes on from unit x + j.
-use Rattle.house_packets.proofs.UnitLaws.{units-few, unit-inside, Equal, equal-first, equal-on, equal-stops, equal-ends}
+use Rattle.house_packets.proofs.UnitLaws.{Equal, equal-first, equal-on, equal-stops, equal-ends}
+use Rattle.house_cells.proofs.EachLaws.{cell-inside, cells-few}
 use Rattle.house_packets.specs.Units.{unitAt}
 use lib.ListN.{length}
 use native.Mathlib.Omega.{arith}
@@ -19,12 +20,12 @@ loop-holds : tie.Need-loop-holds Inv-loop μ-loop
 loop-holds c = let a = c .before .args in equal-first (unitAt (a .unit) (a .b .now) (a .v)) (a .unit) (a .b .now) (a .x) (a .m)
 
 add-same-unit : tie.Need-add-same-unit Inv-loop μ-loop
-add-same-unit c = let a = c .before .before .before .args in omega (arith, c .loop-test .taken, units-few (a .unit) (a .x + a .m) (length (a .b .now)) (c .before .before .before .pre .0) (c .before .before .before .pre .3))
+add-same-unit c = let a = c .before .before .before .args in omega (arith, c .loop-test .taken, cells-few (a .unit) (a .x + a .m) (length (a .b .now)) (c .before .before .before .pre .0) (c .before .before .before .pre .3))
 
 same-unit-requires : tie.Need-same-unit-requires Inv-loop μ-loop
 same-unit-requires c κs =
     let a = c .before .before .before .args in
-    (c .before .before .before .pre .0, c .before .before .before .pre .1, c .before .before .before .pre .2, unit-inside (a .unit) (a .x + c .before .loop .j) (a .x + a .m) (length (a .b .now)) (omega (arith, c .loop-test .taken)) (c .before .before .before .pre .3))
+    (c .before .before .before .pre .0, c .before .before .before .pre .1, c .before .before .before .pre .2, cell-inside (a .unit) (a .x + c .before .loop .j) (a .x + a .m) (length (a .b .now)) (omega (arith, c .loop-test .taken)) (c .before .before .before .pre .3))
 
 returns : tie.Need-returns Inv-loop μ-loop
 returns c =

@@ -1,6 +1,6 @@
 -- Invariant: size is that of the packets before unit i, and the left units from unit i on give the rest.
 use Rattle.house_packets.proofs.GapLaws.{Sizing, sizing-first, sizing-on, sizing-ends}
-use Rattle.house_packets.proofs.UnitLaws.{units-few, units-inside}
+use Rattle.house_cells.proofs.EachLaws.{cells-few, cells-inside}
 use lib.ListN.{length}
 use Prim.Native.Nat.{_+_}
 use native.Mathlib.Omega.{arith}
@@ -23,10 +23,10 @@ packet-at-requires : tie.Need-packet-at-requires Inv-loop μ-loop
 packet-at-requires c κs =
     let a = c .before .before .before .before .args in
     let f = c .before .before .before .before .pre .0 in
-    (f .some-unit, f .small-unit, f .some-least, f .small-least, omega (arith, c .loop-test .taken), units-inside (a .unit) _ (a .x + a .m) (length (a .b .now)) (omega (arith, c .before .loop .inv .place)) (c .before .before .before .before .pre .1))
+    (f .some-unit, f .small-unit, f .some-least, f .small-least, omega (arith, c .loop-test .taken), cells-inside (a .unit) _ (a .x + a .m) (length (a .b .now)) (omega (arith, c .before .loop .inv .place)) (c .before .before .before .before .pre .1))
 
 add-i : tie.Need-add-i Inv-loop μ-loop
-add-i c = let a = c .before .before .before .before .before .before .args in omega (arith, c .before .before .before .loop .inv .place, c .before .packet-at .ensures .inside, units-few (a .unit) (a .x + a .m) (length (a .b .now)) (c .before .before .before .before .before .before .pre .0 .some-unit) (c .before .before .before .before .before .before .pre .1))
+add-i c = let a = c .before .before .before .before .before .before .args in omega (arith, c .before .before .before .loop .inv .place, c .before .packet-at .ensures .inside, cells-few (a .unit) (a .x + a .m) (length (a .b .now)) (c .before .before .before .before .before .before .pre .0 .some-unit) (c .before .before .before .before .before .before .pre .1))
 
 loop-again : tie.Need-loop-again Inv-loop μ-loop
 loop-again c =

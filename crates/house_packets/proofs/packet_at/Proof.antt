@@ -1,6 +1,6 @@
 -- A packet takes 127 units at most: 127 units decide how long a repeat is, and these and least - 1 more where a copy ends.
 use Rattle.house_packets.proofs.PacketLaws.{repeat-at, copy-at}
-use Rattle.house_packets.proofs.UnitLaws.{unit-inside, units-inside}
+use Rattle.house_cells.proofs.EachLaws.{cell-inside, cells-inside}
 use Rattle.house_packets.specs.Packets.{equals, upToRepeat}
 use Rattle.house_packets.specs.Units.{unitAt, unitsAt}
 use native.Mathlib.Nat.{mul-le-mul-left}
@@ -15,7 +15,7 @@ use Rattle.house_packets.proofs.packet_at.Tie as tie
 equals-of-requires : tie.Need-equals-of-requires
 equals-of-requires c κs =
     let a = c .before .before .before .before .args in
-    (c .before .before .before .before .pre .0, c .before .before .before .before .pre .1, unit-inside (a .unit) (a .x) (a .x + a .m) (length (a .b .now)) (omega (arith, c .before .before .before .before .pre .4)) (c .before .before .before .before .pre .5), units-inside (a .unit) _ (a .x + a .m) (length (a .b .now)) (omega (arith, c .smaller .ensures)) (c .before .before .before .before .pre .5))
+    (c .before .before .before .before .pre .0, c .before .before .before .before .pre .1, cell-inside (a .unit) (a .x) (a .x + a .m) (length (a .b .now)) (omega (arith, c .before .before .before .before .pre .4)) (c .before .before .before .before .pre .5), cells-inside (a .unit) _ (a .x + a .m) (length (a .b .now)) (omega (arith, c .smaller .ensures)) (c .before .before .before .before .pre .5))
 
 returns : tie.Need-returns
 returns c =
@@ -27,7 +27,7 @@ returns c =
 up-to-repeat-requires : tie.Need-up-to-repeat-requires
 up-to-repeat-requires c κs =
     let a = c .before .before .before .before .args in
-    (c .before .before .before .before .pre .0, c .before .before .before .before .pre .1, c .before .before .before .before .pre .2, units-inside (a .unit) _ (a .x + a .m) (length (a .b .now)) (omega (arith, c .smaller2 .ensures)) (c .before .before .before .before .pre .5))
+    (c .before .before .before .before .pre .0, c .before .before .before .before .pre .1, c .before .before .before .before .pre .2, cells-inside (a .unit) _ (a .x + a .m) (length (a .b .now)) (omega (arith, c .smaller2 .ensures)) (c .before .before .before .before .pre .5))
 
 mul-t10 : tie.Need-mul-t10
 mul-t10 c = omega (arith, mul-le-mul-left (c .smaller3 .result) (c .before .before .before .before .before .before .pre .1), c .smaller3 .ensures)

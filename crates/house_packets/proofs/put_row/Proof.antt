@@ -1,6 +1,6 @@
 -- Invariant: all packets stored at at are the count stored so far, and those of the stretches from unit i on stored at here.
 use Rattle.house_packets.proofs.RowLaws.{stretchBytes, row-stretches, row-bytes, stretch-gap, stretch-fits}
-use Rattle.house_packets.proofs.UnitLaws.{units-few, units-inside}
+use Rattle.house_cells.proofs.EachLaws.{cells-few, cells-inside}
 use Rattle.house_packets.specs.Packets.{bytes, stretchPackets}
 use Rattle.house_cells.proofs.StretchLaws.{Measured, measured-first, measured-on, measured-all, Written, written-first, written-room, written-on, written-all}
 use Rattle.format.specs.Limits.{maxWidth}
@@ -69,7 +69,7 @@ put-gap-requires c κs =
     let m = s .result .changed in
     let f = stretch-fits (a .unit) (a .least) (a .longest) (c .before .before .before .before .before .before .before .before .before .before .pre .0) (a .n) (l .i) g m maxWidth (length (a .b .now)) (s .ensures .inside) (c .before .before .before .before .before .before .before .before .before .before .pre .1) (c .before .before .before .before .before .before .before .before .before .before .pre .3) in (
       c .before .before .before .before .before .before .before .before .before .before .pre .0,
-      units-inside (a .unit) _ (l .i + g + m) (length (a .b .now)) (omega (arith, c .before .before .before .if1 .left)) (f .row),
+      cells-inside (a .unit) _ (l .i + g + m) (length (a .b .now)) (omega (arith, c .before .before .before .if1 .left)) (f .row),
       f .gap-wide,
       omega (arith, f .changed-wide),
       written-room (a .unit) (a .n) (a .a .now) (a .b .now) (stretchBytes (a .unit) (a .least) (a .longest)) (a .out .now) (a .at) (l .out) (l .here) (l .i) g m (s .ensures) (l .inv .3) _ (ap bytes (stretch-gap (a .unit) (a .least) (a .longest) (a .a .now) (a .b .now) (l .i) g m)) (omega (arith, c .before .before .before .if1 .left)),
@@ -80,12 +80,12 @@ add-count c =
     let a = c .before .before .before .before .before .before .before .before .before .before .before .before .before .before .args in
     let s = c .before .before .before .before .before .before .before .before .before .next-stretch in
     let f = stretch-fits (a .unit) (a .least) (a .longest) (c .before .before .before .before .before .before .before .before .before .before .before .before .before .before .pre .0) (a .n) (c .before .before .before .before .before .before .before .before .before .before .loop .i) (s .result .gap) (s .result .changed) maxWidth (length (a .b .now)) (s .ensures .inside) (c .before .before .before .before .before .before .before .before .before .before .before .before .before .before .pre .1) (c .before .before .before .before .before .before .before .before .before .before .before .before .before .before .pre .3) in
-    omega (arith, c .before .before .before .put-gap .ensures .1, f .gap-wide, f .changed-wide, c .before .before .before .before .before .before .before .before .before .before .loop .inv .1, c .before .before .before .before .before .before .before .before .before .before .loop .inv .0, units-few (a .unit) (a .n) maxWidth (c .before .before .before .before .before .before .before .before .before .before .before .before .before .before .pre .0 .some-unit) (c .before .before .before .before .before .before .before .before .before .before .before .before .before .before .pre .1))
+    omega (arith, c .before .before .before .put-gap .ensures .1, f .gap-wide, f .changed-wide, c .before .before .before .before .before .before .before .before .before .before .loop .inv .1, c .before .before .before .before .before .before .before .before .before .before .loop .inv .0, cells-few (a .unit) (a .n) maxWidth (c .before .before .before .before .before .before .before .before .before .before .before .before .before .before .pre .0 .some-unit) (c .before .before .before .before .before .before .before .before .before .before .before .before .before .before .pre .1))
 
 add-i-2 : tie.Need-add-i-2 Inv-loop μ-loop
 add-i-2 c =
     let a = c .before .before .before .before .before .before .before .before .before .before .before .before .before .before .before .before .args in
-    omega (arith, c .before .before .before .before .before .before .before .before .before .before .before .next-stretch .ensures .inside, units-few (a .unit) (a .n) maxWidth (c .before .before .before .before .before .before .before .before .before .before .before .before .before .before .before .before .pre .0 .some-unit) (c .before .before .before .before .before .before .before .before .before .before .before .before .before .before .before .before .pre .1))
+    omega (arith, c .before .before .before .before .before .before .before .before .before .before .before .next-stretch .ensures .inside, cells-few (a .unit) (a .n) maxWidth (c .before .before .before .before .before .before .before .before .before .before .before .before .before .before .before .before .pre .0 .some-unit) (c .before .before .before .before .before .before .before .before .before .before .before .before .before .before .before .before .pre .1))
 
 loop-less : tie.Need-loop-less Inv-loop μ-loop
 loop-less c = omega (arith, c .before .before .before .before .before .before .before .before .before .before .before .next-stretch .ensures .inside, c .before .before .before .before .before .before .before .before .before .if1 .left)

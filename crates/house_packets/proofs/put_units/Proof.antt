@@ -1,6 +1,6 @@
 -- Invariant: all packets stored at at are the count stored so far, and those of the left units from unit i on stored at here.
 use Rattle.house_packets.proofs.GapLaws.{Storing, storing-first, storing-room, storing-on, storing-ends}
-use Rattle.house_packets.proofs.UnitLaws.{units-few, units-inside}
+use Rattle.house_cells.proofs.EachLaws.{cells-few, cells-inside}
 use lib.ListN.{length}
 use Prim.Native.Nat.{_+_}
 use native.Mathlib.Omega.{arith}
@@ -22,7 +22,7 @@ loop-holds c =
 packet-at-requires : tie.Need-packet-at-requires Inv-loop μ-loop
 packet-at-requires c κs =
     let a = c .before .before .before .before .args in
-    (c .before .before .before .before .pre .0, c .before .before .before .before .pre .1, c .before .before .before .before .pre .2, c .before .before .before .before .pre .3, omega (arith, c .loop-test .taken), units-inside (a .unit) _ (a .x + a .m) (length (a .b .now)) (omega (arith, c .before .loop .inv .place)) (c .before .before .before .before .pre .4))
+    (c .before .before .before .before .pre .0, c .before .before .before .before .pre .1, c .before .before .before .before .pre .2, c .before .before .before .before .pre .3, omega (arith, c .loop-test .taken), cells-inside (a .unit) _ (a .x + a .m) (length (a .b .now)) (omega (arith, c .before .loop .inv .place)) (c .before .before .before .before .pre .4))
 
 put-packet-requires : tie.Need-put-packet-requires Inv-loop μ-loop
 put-packet-requires c κs =
@@ -35,7 +35,7 @@ put-packet-requires c κs =
     )
 
 add-i : tie.Need-add-i Inv-loop μ-loop
-add-i c = let a = c .before .before .before .before .before .before .before .before .before .before .before .before .args in omega (arith, c .before .before .before .before .before .before .before .before .before .loop .inv .place, c .before .before .before .before .before .before .before .packet-at .ensures .inside, units-few (a .unit) (a .x + a .m) (length (a .b .now)) (c .before .before .before .before .before .before .before .before .before .before .before .before .pre .0) (c .before .before .before .before .before .before .before .before .before .before .before .before .pre .4))
+add-i c = let a = c .before .before .before .before .before .before .before .before .before .before .before .before .args in omega (arith, c .before .before .before .before .before .before .before .before .before .loop .inv .place, c .before .before .before .before .before .before .before .packet-at .ensures .inside, cells-few (a .unit) (a .x + a .m) (length (a .b .now)) (c .before .before .before .before .before .before .before .before .before .before .before .before .pre .0) (c .before .before .before .before .before .before .before .before .before .before .before .before .pre .4))
 
 loop-again : tie.Need-loop-again Inv-loop μ-loop
 loop-again c =

@@ -1,6 +1,6 @@
 -- Invariant: size is that of the stretches before unit i, and the stretches from unit i on give the rest.
 use Rattle.house_packets.proofs.RowLaws.{stretchBytes, row-bytes, stretch-gap, stretch-fits}
-use Rattle.house_packets.proofs.UnitLaws.{units-few}
+use Rattle.house_cells.proofs.EachLaws.{cells-few}
 use Rattle.house_packets.specs.Packets.{Packet, bytes}
 use Rattle.house_cells.proofs.StretchLaws.{Measured, measured-first, measured-on, measured-all}
 use Rattle.format.specs.Limits.{maxWidth}
@@ -55,7 +55,7 @@ add-size c =
     let a = c .before .before .before .before .before .before .before .before .before .args in
     let s = c .before .before .before .before .before .next-stretch in
     let f = stretch-fits (a .unit) (a .least) (a .longest) (c .before .before .before .before .before .before .before .before .before .pre .0) (a .n) (c .before .before .before .before .before .before .loop .i) (s .result .gap) (s .result .changed) maxWidth (length (a .b .now)) (s .ensures .inside) (c .before .before .before .before .before .before .before .before .before .pre .1) (c .before .before .before .before .before .before .before .before .before .pre .3) in
-    omega (arith, c .gap-size .ensures .1, f .gap-wide, f .changed-wide, c .before .before .before .before .before .before .loop .inv .1, c .before .before .before .before .before .before .loop .inv .0, units-few (a .unit) (a .n) maxWidth (c .before .before .before .before .before .before .before .before .before .pre .0 .some-unit) (c .before .before .before .before .before .before .before .before .before .pre .1))
+    omega (arith, c .gap-size .ensures .1, f .gap-wide, f .changed-wide, c .before .before .before .before .before .before .loop .inv .1, c .before .before .before .before .before .before .loop .inv .0, cells-few (a .unit) (a .n) maxWidth (c .before .before .before .before .before .before .before .before .before .pre .0 .some-unit) (c .before .before .before .before .before .before .before .before .before .pre .1))
 
 loop-less : tie.Need-loop-less Inv-loop μ-loop
 loop-less c = omega (arith, c .before .before .before .before .before .before .before .next-stretch .ensures .inside, c .before .before .before .before .before .if1 .left)

@@ -1,5 +1,6 @@
 -- Invariant: no repeat begins at the first j units, and the count goes on from unit x + j.
-use Rattle.house_packets.proofs.UnitLaws.{units-few, units-inside, Single, single-first, single-on, single-stops, single-ends}
+use Rattle.house_packets.proofs.UnitLaws.{Single, single-first, single-on, single-stops, single-ends}
+use Rattle.house_cells.proofs.EachLaws.{cells-few, cells-inside}
 use lib.ListN.{length}
 use native.Mathlib.Omega.{arith}
 use Prim.Native.Nat.{_-_, _+_}
@@ -17,12 +18,12 @@ loop-holds : tie.Need-loop-holds Inv-loop μ-loop
 loop-holds c = let a = c .before .args in single-first (a .least) (a .unit) (a .b .now) (a .x) (a .m)
 
 add-repeats-at : tie.Need-add-repeats-at Inv-loop μ-loop
-add-repeats-at c = let a = c .before .before .before .args in omega (arith, c .loop-test .taken, units-few (a .unit) (a .x + a .m) (length (a .b .now)) (c .before .before .before .pre .0) (c .before .before .before .pre .3))
+add-repeats-at c = let a = c .before .before .before .args in omega (arith, c .loop-test .taken, cells-few (a .unit) (a .x + a .m) (length (a .b .now)) (c .before .before .before .pre .0) (c .before .before .before .pre .3))
 
 repeats-at-requires : tie.Need-repeats-at-requires Inv-loop μ-loop
 repeats-at-requires c κs =
     let a = c .before .before .before .args in
-    (c .before .before .before .pre .0, c .before .before .before .pre .1, c .before .before .before .pre .2, units-inside (a .unit) _ (a .x + a .m) (length (a .b .now)) (omega (arith, c .loop-test .taken)) (c .before .before .before .pre .3))
+    (c .before .before .before .pre .0, c .before .before .before .pre .1, c .before .before .before .pre .2, cells-inside (a .unit) _ (a .x + a .m) (length (a .b .now)) (omega (arith, c .loop-test .taken)) (c .before .before .before .pre .3))
 
 returns : tie.Need-returns Inv-loop μ-loop
 returns c =

@@ -8,7 +8,7 @@ use borrow.Author.Needs.{needs}
 use lib.Seq.{length-take-le}
 use lib.ListN.{length}
 use Rattle.format.specs.Limits.{sizeOk}
-use Rattle.format.proofs.Laws.{size-in}
+use Rattle.format.proofs.Laws.{size-ok-in}
 use Rattle.house_rows.proofs.Types.{search-refused, search-told}
 use Rattle.house_rows.proofs.search_row.Statement.{statement}
 use Rattle.house_rows.proofs.search_row.Tie as tie
@@ -21,11 +21,11 @@ returns : tie.Need-returns
 returns c = search-refused (c .before .before .before .args .row .now) (sym (c .before .size-ok .ensures) ∙ not-true _ (c .if1 .taken))
 
 part-first-end : tie.Need-part-first-end
-part-first-end c = omega (arith, size-in (length (c .before .before .before .before .args .row .now)) 1 (sized (c .before)) .wide)
+part-first-end c = omega (arith, size-ok-in (length (c .before .before .before .before .args .row .now)) 1 (sized (c .before)) .wide)
 
 plan-row-requires : tie.Need-plan-row-requires
 plan-row-requires c κs =
-    let s = size-in (length (c .before .before .before .before .before .args .row .now)) 1 (sized (c .before .before)) in
+    let s = size-ok-in (length (c .before .before .before .before .before .args .row .now)) 1 (sized (c .before .before)) in
     (s .some-wide, s .wide, length-take-le (length (c .before .before .before .before .before .args .row .now) - 0) (c .before .row-room .result) (omega (arith, s .wide)) ∙ omega arith)
 
 returns-2 : tie.Need-returns-2

@@ -1,7 +1,8 @@
 -- Invariant: size is that of the stretches before row i, and the stretches from row i on give the rest.
-use Rattle.house_ss2.proofs.RowLaws.{rows-inside, stretch-length, body-length}
+use Rattle.house_ss2.proofs.RowLaws.{stretch-length, body-length}
 use Rattle.house_ss2.specs.Delta.{stretchLines, changedRows}
 use Rattle.house_ss2.specs.Line.{lineMost}
+use Rattle.house_cells.proofs.EachLaws.{cells-inside}
 use Rattle.house_cells.proofs.StretchLaws.{Measured, measured-first, measured-on, measured-all}
 use lib.ListN.{length}
 use native.Mathlib.Omega.{arith}
@@ -46,8 +47,8 @@ lines-size-requires c κs =
       c .before .before .before .before .before .before .before .before .pre .0,
       c .before .before .before .before .before .before .before .before .pre .1,
       omega (arith, x, c .before .before .before .before .before .before .before .before .pre .2),
-      rows-inside (a .width) n (a .height) (length (a .previous .now)) x (c .before .before .before .before .before .before .before .before .pre .3),
-      rows-inside (a .width) n (a .height) (length (a .next .now)) x (c .before .before .before .before .before .before .before .before .pre .4),
+      cells-inside (a .width) n (a .height) (length (a .previous .now)) x (omega (arith, c .before .before .before .before .before .before .before .before .pre .3)),
+      cells-inside (a .width) n (a .height) (length (a .next .now)) x (omega (arith, c .before .before .before .before .before .before .before .before .pre .4)),
     )
 
 loop-less : tie.Need-loop-less Inv-loop μ-loop

@@ -1,5 +1,6 @@
 -- Invariant: all lines stored at at are those stored so far, and those of the left rows from row r on stored at here.
-use Rattle.house_ss2.proofs.RowLaws.{row-inside, rows-few, Storing, storing-first, storing-room, storing-on, storing-ends}
+use Rattle.house_ss2.specs.Line.{line}
+use Rattle.house_cells.proofs.EachLaws.{cell-inside, cells-few, Storing, storing-first, storing-room, storing-on, storing-ends}
 use lib.ListN.{length}
 use native.Mathlib.Omega.{arith}
 use Prim.Native.Nat.{_+_, _<_}
@@ -8,13 +9,13 @@ use Rattle.house_ss2.proofs.put_lines.Statement.{statement}
 use Rattle.house_ss2.proofs.put_lines.Tie as tie
 
 abbrev Inv-loop : tie.InvT-loop
-Inv-loop out₀ at previous next width first n r₀ left₀ here₀ out r left here = Storing width previous next first n out₀ at out r left here
+Inv-loop out₀ at previous next width first n r₀ left₀ here₀ out r left here = Storing width previous next (line width) first n out₀ at out r left here
 
 abbrev μ-loop : tie.MeasureT-loop
 μ-loop out₀ at previous next width first n r₀ left₀ here₀ out r left here = left
 
 loop-holds : tie.Need-loop-holds Inv-loop μ-loop
-loop-holds c = let a = c .before .before .before .args in storing-first (a .width) (a .previous .now) (a .next .now) (a .first) (a .n) (a .out .now) (a .at) (c .before .before .before .pre .4)
+loop-holds c = let a = c .before .before .before .args in storing-first (a .width) (a .previous .now) (a .next .now) (line (a .width)) (a .first) (a .n) (a .out .now) (a .at) (c .before .before .before .pre .4)
 
 put-row-requires : tie.Need-put-row-requires Inv-loop μ-loop
 put-row-requires c κs =
@@ -23,22 +24,22 @@ put-row-requires c κs =
     let here : l .r < a .first + a .n = omega (arith, l .inv .place, c .before .loop-test .taken) in (
       c .before .before .before .before .before .before .pre .0,
       c .before .before .before .before .before .before .pre .1,
-      row-inside (a .width) (l .r) (a .first + a .n) (length (a .previous .now)) here (c .before .before .before .before .before .before .pre .2),
-      row-inside (a .width) (l .r) (a .first + a .n) (length (a .next .now)) here (c .before .before .before .before .before .before .pre .3),
-      storing-room (a .width) (a .previous .now) (a .next .now) (a .first) (a .n) (a .out .now) (a .at) (l .out) (l .r) (l .left) (l .here) (l .inv) (c .before .loop-test .taken),
+      cell-inside (a .width) (l .r) (a .first + a .n) (length (a .previous .now)) here (c .before .before .before .before .before .before .pre .2),
+      cell-inside (a .width) (l .r) (a .first + a .n) (length (a .next .now)) here (c .before .before .before .before .before .before .pre .3),
+      storing-room (a .width) (a .previous .now) (a .next .now) (line (a .width)) (a .first) (a .n) (a .out .now) (a .at) (l .out) (l .r) (l .left) (l .here) (l .inv) (c .before .loop-test .taken),
     )
 
 add-r : tie.Need-add-r Inv-loop μ-loop
 add-r c =
     let a = c .before .before .before .before .before .before .before .before .before .args in
-    omega (arith, c .before .before .before .before .before .loop .inv .place, c .before .before .before .before .loop-test .taken, rows-few (a .width) (a .first + a .n) (length (a .next .now)) (c .before .before .before .before .before .before .before .before .before .pre .0) (c .before .before .before .before .before .before .before .before .before .pre .3))
+    omega (arith, c .before .before .before .before .before .loop .inv .place, c .before .before .before .before .loop-test .taken, cells-few (a .width) (a .first + a .n) (length (a .next .now)) (c .before .before .before .before .before .before .before .before .before .pre .0) (c .before .before .before .before .before .before .before .before .before .pre .3))
 
 loop-again : tie.Need-loop-again Inv-loop μ-loop
 loop-again c =
     let a = c .before .before .before .before .before .before .before .before .before .args in
     let l = c .before .before .before .before .before .loop in
     let e = c .before .before .put-row .ensures in
-    storing-on (a .width) (a .previous .now) (a .next .now) (a .first) (a .n) (a .out .now) (a .at) (l .out) (l .r) (l .left) (l .here) (l .inv) (c .before .before .before .before .loop-test .taken) (c .before .before .put-row .last .0) (c .before .before .put-row .result) (e .0) (e .1)
+    storing-on (a .width) (a .previous .now) (a .next .now) (line (a .width)) (a .first) (a .n) (a .out .now) (a .at) (l .out) (l .r) (l .left) (l .here) (l .inv) (c .before .before .before .before .loop-test .taken) (c .before .before .put-row .last .0) (c .before .before .put-row .result) (e .0) (e .1)
 
 same-length : tie.Need-same-length Inv-loop μ-loop
 same-length c = c .before .loop .inv .ahead .long
@@ -47,7 +48,7 @@ returns : tie.Need-returns Inv-loop μ-loop
 returns c =
     let a = c .before .before .before .before .before .args in
     let l = c .before .loop in
-    storing-ends (a .width) (a .previous .now) (a .next .now) (a .first) (a .n) (a .out .now) (a .at) (l .out) (l .r) (l .left) (l .here) (l .inv) (omega (arith, c .loop-test .left))
+    storing-ends (a .width) (a .previous .now) (a .next .now) (line (a .width)) (a .first) (a .n) (a .out .now) (a .at) (l .out) (l .r) (l .left) (l .here) (l .inv) (omega (arith, c .loop-test .left))
 
 pub put-lines-spec : {M : Type 1} → statement M
 put-lines-spec =

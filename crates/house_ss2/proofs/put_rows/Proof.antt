@@ -1,6 +1,7 @@
 -- Invariant: all stretches stored at at are those stored so far, of count rows, and those from row i on stored at here.
-use Rattle.house_ss2.proofs.RowLaws.{rows, rows-inside, stretch-rows}
+use Rattle.house_ss2.proofs.RowLaws.{rows, stretch-rows}
 use Rattle.house_ss2.specs.Delta.{stretchLines, changedRows, lineCount}
+use Rattle.house_cells.proofs.EachLaws.{cells-inside}
 use Rattle.house_cells.proofs.StretchLaws.{Measured, measured-first, measured-on, measured-all, Written, written-first, written-room, written-on, written-all}
 use lib.ListN.{length}
 use native.Mathlib.Omega.{arith}
@@ -54,8 +55,8 @@ put-stretch-requires c κs =
       c .before .before .before .before .before .before .before .before .pre .0,
       c .before .before .before .before .before .before .before .before .pre .1,
       omega (arith, x, c .before .before .before .before .before .before .before .before .pre .2),
-      rows-inside (a .width) n (a .height) (length (a .previous .now)) x (c .before .before .before .before .before .before .before .before .pre .3),
-      rows-inside (a .width) n (a .height) (length (a .next .now)) x (c .before .before .before .before .before .before .before .before .pre .4),
+      cells-inside (a .width) n (a .height) (length (a .previous .now)) x (omega (arith, c .before .before .before .before .before .before .before .before .pre .3)),
+      cells-inside (a .width) n (a .height) (length (a .next .now)) x (omega (arith, c .before .before .before .before .before .before .before .before .pre .4)),
       written-room (a .width) (a .height) (a .previous .now) (a .next .now) (stretchLines (a .width)) (a .out .now) (a .at) (l .out) (l .here) (l .i) (s .result .gap) (s .result .changed) (s .ensures) (l .inv .3) _ refl (omega (arith, c .before .if1 .left)),
     )
 

@@ -1,5 +1,6 @@
 -- The skip word, where there is one, and then the lines behind it.
-use Rattle.house_ss2.proofs.RowLaws.{rows-few, stretch-length, stretch-stored}
+use Rattle.house_ss2.proofs.RowLaws.{stretch-length, stretch-stored}
+use Rattle.house_cells.proofs.EachLaws.{cells-few}
 use lib.ListN.{length}
 use native.Mathlib.Omega.{arith}
 use Prim.Native.Nat.{_+_}
@@ -15,7 +16,7 @@ put-skip-requires c κs =
 add-put-lines : tie.Need-add-put-lines
 add-put-lines c =
     let a = c .before .before .before .before .before .before .before .before .args in
-    omega (arith, c .before .before .before .before .before .before .before .before .pre, rows-few (a .width) (a .i + a .g + a .n) (length (a .next .now)) (c .before .before .before .before .before .before .before .before .pre .0) (c .before .before .before .before .before .before .before .before .pre .4))
+    omega (arith, c .before .before .before .before .before .before .before .before .pre, cells-few (a .width) (a .i + a .g + a .n) (length (a .next .now)) (c .before .before .before .before .before .before .before .before .pre .0) (c .before .before .before .before .before .before .before .before .pre .4))
 
 put-lines-requires : tie.Need-put-lines-requires
 put-lines-requires c κs =

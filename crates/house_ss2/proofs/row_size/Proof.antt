@@ -1,5 +1,5 @@
 -- The ranges lend the row.
-use Rattle.house_ss2.proofs.RowLaws.{lent-row}
+use Rattle.house_cells.proofs.EachLaws.{lent-row}
 use Rattle.house_ss2.specs.Line.{line}
 use Rattle.house_cells.specs.Cells.{Cell}
 use lib.ListN.{length}

@@ -17,17 +17,17 @@ use borrow.Author.Needs.{needs}
 use Rattle.list_chunks.proofs.list_text.Statement.{statement}
 use Rattle.list_chunks.proofs.list_text.Tie as tie
 
-reel : (c : tie.After-known-told2) → let g = c .before .width .given .0 in ReelIn (c .before .before .before .before .before .before .before .args .bytes .now) (g .0) (g .1 .0) (g .1 .1 .0) (g .1 .1 .1 .0)
-reel c = head-in (c .before .before .before .before .before .before .before .args .bytes .now) _ (sym (c .before .before .before .head-of .ensures) ∙ c .before .width .given .1)
+reel : (c : tie.After-known-told2) → let g = c .before .picture .given .0 in ReelIn (c .before .before .before .before .before .before .before .args .bytes .now) (g .0) (g .1 .0) (g .1 .1 .0)
+reel c = head-in _ (c .before .before .before .before .before .before .before .args .bytes .now) _ (sym (c .before .before .before .head-of .ensures) ∙ c .before .picture .given .1)
 
-listed : (c : tie.After-known-told2) → let g = c .before .width .given .0 in Listed (take (g .1 .1 .1 .0 - 0) (c .before .before .before .before .before .before .before .args .bytes .now)) (g .0) (g .1 .0) (g .1 .1 .0)
-listed c = listed-in (c .before .before .before .before .before .before .before .args .bytes .now) _ _ _ _ _ (c .before .before .before .before .if1 .left) (reel c) (sub-zero (c .before .width .given .0 .1 .1 .1 .0))
+listed : (c : tie.After-known-told2) → let g = c .before .picture .given .0 in Listed (take (g .1 .1 .0 - 0) (c .before .before .before .before .before .before .before .args .bytes .now)) (g .0 .width) (g .0 .height) (g .1 .0)
+listed c = listed-in (c .before .before .before .before .before .before .before .args .bytes .now) _ _ _ _ (c .before .before .before .before .if1 .left) (reel c) (sub-zero (c .before .picture .given .0 .1 .1 .0))
 
 -- the listing, by how far the walk over the frames went
-walked-lines : (c : tie.After-known-told2) (x : Extent) → let g = c .before .width .given .0 in let b = c .before .before .before .before .before .before .before .args .bytes .now in extent (take (g .1 .1 .1 .0 - 0) b) (g .1 .1 .0 + 1) HEADER-BYTES ≡ x
-    → listing b ≡ walkLines (take (g .1 .1 .1 .0 - 0) b) (g .0) (g .1 .0) (g .1 .1 .0) x
+walked-lines : (c : tie.After-known-told2) (x : Extent) → let g = c .before .picture .given .0 in let b = c .before .before .before .before .before .before .before .args .bytes .now in extent (take (g .1 .1 .0 - 0) b) (g .1 .0 + 1) HEADER-BYTES ≡ x
+    → listing b ≡ walkLines (take (g .1 .1 .0 - 0) b) (g .0 .width) (g .0 .height) (g .1 .0) x
 walked-lines c x e =
-    listing-walk (c .before .before .before .before .before .before .before .args .bytes .now) (c .before .before .before .before .if1 .left) _ _ _ _ _ (sym (c .before .before .before .head-of .ensures) ∙ c .before .width .given .1) _ (sub-zero (c .before .width .given .0 .1 .1 .1 .0)) x e
+    listing-walk (c .before .before .before .before .before .before .before .args .bytes .now) (c .before .before .before .before .if1 .left) _ _ _ _ (sym (c .before .before .before .head-of .ensures) ∙ c .before .picture .given .1) _ (sub-zero (c .before .picture .given .0 .1 .1 .0)) x e
 
 put-refused-requires : tie.Need-put-refused-requires
 put-refused-requires c κs = omega (arith, refusal-short NoRoom 0 (omega arith), c .before .before .before .before .pre)

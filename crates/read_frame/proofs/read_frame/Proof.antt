@@ -7,7 +7,7 @@ use borrow.Author.Needs.{needs}
 use borrow.Author.Tests.{not-true, not-false}
 use lib.ListN.{length}
 use lib.Seq.{length-take-le}
-use Rattle.format.specs.Limits.{area, sizeOk}
+use Rattle.format.specs.Limits.{area, sizeFits}
 use Rattle.format.proofs.Laws.{size-in}
 use Rattle.answer.specs.Answer.{told}
 use Rattle.state.specs.State.{State, state, enough, refilled}
@@ -19,8 +19,8 @@ use Rattle.read_frame.proofs.read_frame.Statement.{statement}
 use Rattle.read_frame.proofs.read_frame.Tie as tie
 
 -- the size is in range
-sized : (c : tie.Else1) → let z = c .before .before .before .before .before .args .size in sizeOk (z .width) (z .height) ≡ true
-sized c = sym (c .before .size-ok .ensures) ∙ not-false _ (c .if1 .left)
+sized : (c : tie.Else1) → let z = c .before .before .before .before .before .args .size in sizeFits z ≡ true
+sized c = sym (c .before .size-fits .ensures) ∙ not-false _ (c .if1 .left)
 
 -- the slices are long enough
 held : (c : tie.Else2) → let a = c .before .before .before .before .before .before .before .before .args in enough (area (a .size)) (state (a .picture .now) (a .palette .now)) ≡ true
@@ -34,10 +34,10 @@ long c =
 returns : tie.Need-returns
 returns c =
     let a = c .before .before .before .before .before .args in
-    sym (read-size (a .bytes .now) (a .size) (state (a .picture .now) (a .palette .now)) (sym (c .before .size-ok .ensures) ∙ not-true _ (c .if1 .taken)))
+    sym (read-size (a .bytes .now) (a .size) (state (a .picture .now) (a .palette .now)) (sym (c .before .size-fits .ensures) ∙ not-true _ (c .if1 .taken)))
 
 mul-n : tie.Need-mul-n
-mul-n c = let z = c .before .before .before .before .before .before .args .size in omega (arith, size-in (z .width) (z .height) (sized (c .before)) .area)
+mul-n c = let z = c .before .before .before .before .before .before .args .size in omega (arith, size-in z (sized (c .before)) .area)
 
 returns-2 : tie.Need-returns-2
 returns-2 c =

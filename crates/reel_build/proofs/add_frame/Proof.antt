@@ -26,7 +26,7 @@ passed : (c : tie.Else5) → let a = c .before .before .before .before .before .
 passed c =
     record {
       taken = sym (c .before .before .before .before .before .before .before .before .before .before .add-ok .ensures) ∙ not-false _ (c .before .before .before .before .before .before .before .before .before .if1 .left);
-      sized = sym (c .before .before .before .before .before .before .before .before .size-ok .ensures) ∙ not-false _ (c .before .before .before .before .before .before .before .if2 .left);
+      sized = sym (c .before .before .before .before .before .before .before .before .size-fits .ensures) ∙ not-false _ (c .before .before .before .before .before .before .before .if2 .left);
       shown = sym (c .before .before .before .before .before .holds .ensures) ∙ not-false _ (c .before .before .before .before .if3 .left);
       next = sym (c .before .before .before .holds2 .ensures) ∙ not-false _ (c .before .before .if4 .left);
       ended = sym (c .before .end-ok .ensures) ∙ not-false _ (c .if5 .left);
@@ -42,30 +42,30 @@ returns-2 : tie.Need-returns-2
 returns-2 c =
     let a = c .before .before .before .before .before .before .before .before .before .before .before in
     refused-keeps _ _ _ _ (c .refused2 .ensures) (lentBytes (a .args .bytes .now))
-    ∙ sym (add-size (a .args .reel) (a .args .bytes .now) (shown a) (next a) (sym (c .before .before .before .before .add-ok .ensures) ∙ not-false _ (c .before .before .before .if1 .left)) (sym (c .before .before .size-ok .ensures) ∙ not-true _ (c .before .if2 .taken)))
+    ∙ sym (add-size (a .args .reel) (a .args .bytes .now) (shown a) (next a) (sym (c .before .before .before .before .add-ok .ensures) ∙ not-false _ (c .before .before .before .if1 .left)) (sym (c .before .before .size-fits .ensures) ∙ not-true _ (c .before .if2 .taken)))
 
 mul-n : tie.Need-mul-n
-mul-n c = let z = c .before .before .before .before .before .before .before .before .before .before .before .args .reel .size in omega (arith, size-in (z .width) (z .height) (sym (c .before .before .size-ok .ensures) ∙ not-false _ (c .before .if2 .left)) .area)
+mul-n c = let z = c .before .before .before .before .before .before .before .before .before .before .before .args .reel .size in omega (arith, size-in z (sym (c .before .before .size-fits .ensures) ∙ not-false _ (c .before .if2 .left)) .area)
 
 returns-3 : tie.Need-returns-3
 returns-3 c =
     let a = c .before .before .before .before .before .before .before .before .before .before .before .before .before .before in
     refused-keeps _ _ _ _ (c .refused3 .ensures) (lentBytes (a .args .bytes .now))
-    ∙ sym (add-short (a .args .reel) (a .args .bytes .now) (shown a) (next a) (sym (c .before .before .before .before .before .before .before .add-ok .ensures) ∙ not-false _ (c .before .before .before .before .before .before .if1 .left)) (sym (c .before .before .before .before .before .size-ok .ensures) ∙ not-false _ (c .before .before .before .before .if2 .left))
+    ∙ sym (add-short (a .args .reel) (a .args .bytes .now) (shown a) (next a) (sym (c .before .before .before .before .before .before .before .add-ok .ensures) ∙ not-false _ (c .before .before .before .before .before .before .if1 .left)) (sym (c .before .before .before .before .before .size-fits .ensures) ∙ not-false _ (c .before .before .before .before .if2 .left))
     (sym (c .before .before .holds .ensures) ∙ not-true _ (c .before .if3 .taken)))
 
 returns-4 : tie.Need-returns-4
 returns-4 c =
     let a = c .before .before .before .before .before .before .before .before .before .before .before .before .before .before .before .before in
     refused-keeps _ _ _ _ (c .refused4 .ensures) (lentBytes (a .args .bytes .now))
-    ∙ sym (add-next-short (a .args .reel) (a .args .bytes .now) (shown a) (next a) (sym (c .before .before .before .before .before .before .before .before .before .add-ok .ensures) ∙ not-false _ (c .before .before .before .before .before .before .before .before .if1 .left)) (sym (c .before .before .before .before .before .before .before .size-ok .ensures) ∙ not-false _ (c .before .before .before .before .before .before .if2 .left))
+    ∙ sym (add-next-short (a .args .reel) (a .args .bytes .now) (shown a) (next a) (sym (c .before .before .before .before .before .before .before .before .before .add-ok .ensures) ∙ not-false _ (c .before .before .before .before .before .before .before .before .if1 .left)) (sym (c .before .before .before .before .before .before .before .size-fits .ensures) ∙ not-false _ (c .before .before .before .before .before .before .if2 .left))
     (sym (c .before .before .before .before .holds .ensures) ∙ not-false _ (c .before .before .before .if3 .left)) (sym (c .before .before .holds2 .ensures) ∙ not-true _ (c .before .if4 .taken)))
 
 returns-5 : tie.Need-returns-5
 returns-5 c =
     let a = c .before .before .before .before .before .before .before .before .before .before .before .before .before .before .before .before .before .before in
     refused-keeps _ _ _ _ (c .refused5 .ensures) (lentBytes (a .args .bytes .now))
-    ∙ sym (add-record (a .args .reel) (a .args .bytes .now) (shown a) (next a) (sym (c .before .before .before .before .before .before .before .before .before .before .before .add-ok .ensures) ∙ not-false _ (c .before .before .before .before .before .before .before .before .before .before .if1 .left)) (sym (c .before .before .before .before .before .before .before .before .before .size-ok .ensures) ∙ not-false _ (c .before .before .before .before .before .before .before .before .if2 .left))
+    ∙ sym (add-record (a .args .reel) (a .args .bytes .now) (shown a) (next a) (sym (c .before .before .before .before .before .before .before .before .before .before .before .add-ok .ensures) ∙ not-false _ (c .before .before .before .before .before .before .before .before .before .before .if1 .left)) (sym (c .before .before .before .before .before .before .before .before .before .size-fits .ensures) ∙ not-false _ (c .before .before .before .before .before .before .before .before .if2 .left))
     (sym (c .before .before .before .before .before .before .holds .ensures) ∙ not-false _ (c .before .before .before .before .before .if3 .left)) (sym (c .before .before .before .before .holds2 .ensures) ∙ not-false _ (c .before .before .before .if4 .left)) (sym (c .before .before .end-ok .ensures) ∙ not-true _ (c .before .if5 .taken)))
 
 part-append-end : tie.Need-part-append-end

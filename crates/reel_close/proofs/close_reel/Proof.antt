@@ -31,7 +31,7 @@ passed : (c : tie.Else4) → let a = c .before .before .before .before .before .
 passed c =
     record {
       taken = sym (c .before .before .before .before .before .before .before .before .before .close-ok .ensures) ∙ not-false _ (c .before .before .before .before .before .before .before .before .if1 .left);
-      sized = sym (c .before .before .before .before .before .before .size-ok .ensures) ∙ not-false _ (c .before .before .before .before .before .if2 .left);
+      sized = sym (c .before .before .before .before .before .before .size-fits .ensures) ∙ not-false _ (c .before .before .before .before .before .if2 .left);
       first-long = sym (c .before .before .before .holds .ensures) ∙ not-false _ (c .before .before .if3 .left);
       second-long = sym (c .before .holds2 .ensures) ∙ not-false _ (c .if4 .left);
     }
@@ -45,23 +45,23 @@ returns-2 : tie.Need-returns-2
 returns-2 c =
     let a = c .before .before .before .before .before .before .before .before .before .before .before in
     refused-keeps _ _ _ _ (c .refused2 .ensures) (found a)
-    ∙ sym (close-size (a .args .reel) (a .args .bytes .now) (first a) (second a) (sym (c .before .before .before .before .before .close-ok .ensures) ∙ not-false _ (c .before .before .before .before .if1 .left)) (sym (c .before .before .size-ok .ensures) ∙ not-true _ (c .before .if2 .taken)))
+    ∙ sym (close-size (a .args .reel) (a .args .bytes .now) (first a) (second a) (sym (c .before .before .before .before .before .close-ok .ensures) ∙ not-false _ (c .before .before .before .before .if1 .left)) (sym (c .before .before .size-fits .ensures) ∙ not-true _ (c .before .if2 .taken)))
 
 mul-n : tie.Need-mul-n
-mul-n c = let z = c .before .before .before .before .before .before .before .before .before .before .before .args .reel .size in omega (arith, size-in (z .width) (z .height) (sym (c .before .before .size-ok .ensures) ∙ not-false _ (c .before .if2 .left)) .area)
+mul-n c = let z = c .before .before .before .before .before .before .before .before .before .before .before .args .reel .size in omega (arith, size-in z (sym (c .before .before .size-fits .ensures) ∙ not-false _ (c .before .if2 .left)) .area)
 
 returns-3 : tie.Need-returns-3
 returns-3 c =
     let a = c .before .before .before .before .before .before .before .before .before .before .before .before .before .before in
     refused-keeps _ _ _ _ (c .refused3 .ensures) (found a)
-    ∙ sym (close-short (a .args .reel) (a .args .bytes .now) (first a) (second a) (sym (c .before .before .before .before .before .before .before .before .close-ok .ensures) ∙ not-false _ (c .before .before .before .before .before .before .before .if1 .left)) (sym (c .before .before .before .before .before .size-ok .ensures) ∙ not-false _ (c .before .before .before .before .if2 .left))
+    ∙ sym (close-short (a .args .reel) (a .args .bytes .now) (first a) (second a) (sym (c .before .before .before .before .before .before .before .before .close-ok .ensures) ∙ not-false _ (c .before .before .before .before .before .before .before .if1 .left)) (sym (c .before .before .before .before .before .size-fits .ensures) ∙ not-false _ (c .before .before .before .before .if2 .left))
     (sym (c .before .before .holds .ensures) ∙ not-true _ (c .before .if3 .taken)))
 
 returns-4 : tie.Need-returns-4
 returns-4 c =
     let a = c .before .before .before .before .before .before .before .before .before .before .before .before .before .before .before .before in
     refused-keeps _ _ _ _ (c .refused4 .ensures) (found a)
-    ∙ sym (close-second-short (a .args .reel) (a .args .bytes .now) (first a) (second a) (sym (c .before .before .before .before .before .before .before .before .before .before .close-ok .ensures) ∙ not-false _ (c .before .before .before .before .before .before .before .before .before .if1 .left)) (sym (c .before .before .before .before .before .before .before .size-ok .ensures) ∙ not-false _ (c .before .before .before .before .before .before .if2 .left))
+    ∙ sym (close-second-short (a .args .reel) (a .args .bytes .now) (first a) (second a) (sym (c .before .before .before .before .before .before .before .before .before .before .close-ok .ensures) ∙ not-false _ (c .before .before .before .before .before .before .before .before .before .if1 .left)) (sym (c .before .before .before .before .before .before .before .size-fits .ensures) ∙ not-false _ (c .before .before .before .before .before .before .if2 .left))
     (sym (c .before .before .before .before .holds .ensures) ∙ not-false _ (c .before .before .before .if3 .left)) (sym (c .before .before .holds2 .ensures) ∙ not-true _ (c .before .if4 .taken)))
 
 part-close-frames-end : tie.Need-part-close-frames-end

@@ -7,6 +7,7 @@ use borrow.Author.Needs.{needs}
 use lib.ListN.{take}
 use Rattle.reel_header.specs.Head.{headOf}
 use Rattle.chunks.specs.Spans.{HEADER-BYTES, topFrames}
+use Rattle.reel_header.specs.declared.Takes.the-variants.{FlcOnly}
 use Rattle.reel_header.specs.declared.Head.the-variants.{Reel}
 use Rattle.reel_header.proofs.Laws.{ReelIn, head-in}
 use Rattle.reel_trailer.specs.Trailer.{trailerOf, reel, trailerWalk}
@@ -15,18 +16,18 @@ use Rattle.reel_trailer.proofs.check_trailer.Statement.{statement}
 use Rattle.reel_trailer.proofs.check_trailer.Tie as tie
 
 -- the header is a reel's
-headed : (c : tie.After-known-told2) → let g = c .before .frames .given .0 in headOf (c .before .before .before .before .before .args .bytes .now) ≡ Reel (g .0) (g .1 .0) (g .1 .1 .0) (g .1 .1 .1 .0) (g .1 .1 .1 .1 .0)
+headed : (c : tie.After-known-told2) → let g = c .before .frames .given .0 in headOf FlcOnly (c .before .before .before .before .before .args .bytes .now) ≡ Reel (g .0) (g .1 .0) (g .1 .1 .0) (g .1 .1 .1 .0)
 headed c = sym (c .before .before .before .head-of .ensures) ∙ c .before .frames .given .1
 
 -- and its fields are in range
-inside : (c : tie.After-known-told2) → let g = c .before .frames .given .0 in ReelIn (c .before .before .before .before .before .args .bytes .now) (g .0) (g .1 .0) (g .1 .1 .0) (g .1 .1 .1 .0)
-inside c = head-in _ _ (headed c)
+inside : (c : tie.After-known-told2) → let g = c .before .frames .given .0 in ReelIn (c .before .before .before .before .before .args .bytes .now) (g .0) (g .1 .0) (g .1 .1 .0)
+inside c = head-in _ _ _ (headed c)
 
 -- all its frames were met
-met : (c : tie.After-enum-told) → let g = c .before .before .before .before .before .frames .given .0 in let b = c .before .before .before .before .before .before .before .before .before .args .bytes .now in trailerWalk b ≡ reel (g .1 .1 .1 .0) (trailerOf (topFrames (take (g .1 .1 .1 .0 - 0) b) (g .1 .1 .0 + 1) HEADER-BYTES .offsets))
+met : (c : tie.After-enum-told) → let g = c .before .before .before .before .before .frames .given .0 in let b = c .before .before .before .before .before .before .before .before .before .args .bytes .now in trailerWalk b ≡ reel (g .1 .1 .0) (trailerOf (topFrames (take (g .1 .1 .0 - 0) b) (g .1 .0 + 1) HEADER-BYTES .offsets))
 met c =
     let g = c .before .before .before .before .before .frames .given .0 in
-    walk-to _ _ _ _ _ _ (headed (c .before .before .before .before)) (g .1 .1 .1 .0 - 0) (g .1 .1 .0 + 1) (omega arith) (omega arith) _ (sym (c .before .before .walk-frames .ensures) ∙ c .enum-told .given .1)
+    walk-to _ _ _ _ _ (headed (c .before .before .before .before)) (g .1 .1 .0 - 0) (g .1 .0 + 1) (omega arith) (omega arith) _ (sym (c .before .before .walk-frames .ensures) ∙ c .enum-told .given .1)
 
 part-walk-frames-end : tie.Need-part-walk-frames-end
 part-walk-frames-end c = inside c .most
@@ -52,7 +53,7 @@ add-same-trailer c = omega (arith, inside (c .before .before .before .before .be
 same-trailer-requires : tie.Need-same-trailer-requires
 same-trailer-requires c κs =
     let g = c .before .before .before .before .before .before .before .before .frames .given .0 in
-    walked-in _ _ _ _ _ _ (headed (c .before .before .before .before .before .before .before)) (g .1 .1 .1 .0 - 0) (g .1 .1 .0 + 1) (omega arith) (omega arith) _ (sym (c .before .before .before .before .before .walk-frames .ensures) ∙ c .before .before .before .enum-told .given .1)
+    walked-in _ _ _ _ _ (headed (c .before .before .before .before .before .before .before)) (g .1 .1 .0 - 0) (g .1 .0 + 1) (omega arith) (omega arith) _ (sym (c .before .before .before .before .before .walk-frames .ensures) ∙ c .before .before .before .enum-told .given .1)
 
 returns-2 : tie.Need-returns-2
 returns-2 c =
@@ -65,7 +66,7 @@ returns-3 c = sym (checked-refused _ _ 0 (walk-fault _ _ (sym (c .before .before
 returns-4 : tie.Need-returns-4
 returns-4 c =
     let g = c .before .before .before .before .before .before .frames .given .0 in
-    sym (checked-refused _ _ _ (walk-to _ _ _ _ _ _ (headed (c .before .before .before .before .before)) (g .1 .1 .1 .0 - 0) (g .1 .1 .0 + 1) (omega arith) (omega arith) _ (sym (c .before .before .before .walk-frames .ensures) ∙ c .before .e2 .given .1)))
+    sym (checked-refused _ _ _ (walk-to _ _ _ _ _ (headed (c .before .before .before .before .before)) (g .1 .1 .0 - 0) (g .1 .0 + 1) (omega arith) (omega arith) _ (sym (c .before .before .before .walk-frames .ensures) ∙ c .before .e2 .given .1)))
 
 returns-5 : tie.Need-returns-5
 returns-5 c =

@@ -6,6 +6,7 @@ use borrow.Author.Needs.{needs}
 use lib.ListN.{take}
 use Rattle.reel_header.specs.Head.{headOf}
 use Rattle.chunks.specs.Spans.{HEADER-BYTES, topFrames}
+use Rattle.reel_header.specs.declared.Takes.the-variants.{FlcOnly}
 use Rattle.reel_header.specs.declared.Head.the-variants.{Reel}
 use Rattle.reel_header.proofs.Laws.{ReelIn, head-in}
 use Rattle.reel_trailer.specs.Trailer.{trailerOf, reel, trailerWalk}
@@ -15,23 +16,23 @@ use Rattle.reel_trailer.proofs.write_trailer.Statement.{statement}
 use Rattle.reel_trailer.proofs.write_trailer.Tie as tie
 
 -- the header is a reel's
-headed : (c : tie.After-known-told2) → let g = c .before .frames .given .0 in headOf (c .before .before .before .before .before .before .args .bytes .now) ≡ Reel (g .0) (g .1 .0) (g .1 .1 .0) (g .1 .1 .1 .0) (g .1 .1 .1 .1 .0)
+headed : (c : tie.After-known-told2) → let g = c .before .frames .given .0 in headOf FlcOnly (c .before .before .before .before .before .before .args .bytes .now) ≡ Reel (g .0) (g .1 .0) (g .1 .1 .0) (g .1 .1 .1 .0)
 headed c = sym (c .before .before .before .head-of .ensures) ∙ c .before .frames .given .1
 
 -- and its fields are in range
-inside : (c : tie.After-known-told2) → let g = c .before .frames .given .0 in ReelIn (c .before .before .before .before .before .before .args .bytes .now) (g .0) (g .1 .0) (g .1 .1 .0) (g .1 .1 .1 .0)
-inside c = head-in _ _ (headed c)
+inside : (c : tie.After-known-told2) → let g = c .before .frames .given .0 in ReelIn (c .before .before .before .before .before .before .args .bytes .now) (g .0) (g .1 .0) (g .1 .1 .0)
+inside c = head-in _ _ _ (headed c)
 
 -- all its frames were met
-met : (c : tie.After-enum-told) → let g = c .before .before .before .before .before .before .frames .given .0 in let b = c .before .before .before .before .before .before .before .before .before .before .before .args .bytes .now in trailerWalk b ≡ reel (g .1 .1 .1 .0) (trailerOf (topFrames (take (g .1 .1 .1 .0 - 0) b) (g .1 .1 .0 + 1) HEADER-BYTES .offsets))
+met : (c : tie.After-enum-told) → let g = c .before .before .before .before .before .before .frames .given .0 in let b = c .before .before .before .before .before .before .before .before .before .before .before .args .bytes .now in trailerWalk b ≡ reel (g .1 .1 .0) (trailerOf (topFrames (take (g .1 .1 .0 - 0) b) (g .1 .0 + 1) HEADER-BYTES .offsets))
 met c =
     let g = c .before .before .before .before .before .before .frames .given .0 in
-    walk-to _ _ _ _ _ _ (headed (c .before .before .before .before .before)) (g .1 .1 .1 .0 - 0) (g .1 .1 .0 + 1) (omega arith) (omega arith) _ (sym (c .before .before .walk-frames .ensures) ∙ c .enum-told .given .1)
+    walk-to _ _ _ _ _ (headed (c .before .before .before .before .before)) (g .1 .1 .0 - 0) (g .1 .0 + 1) (omega arith) (omega arith) _ (sym (c .before .before .walk-frames .ensures) ∙ c .enum-told .given .1)
 
-all-walked : (c : tie.After-enum-told) → let g = c .before .before .before .before .before .before .frames .given .0 in Walked (take (g .1 .1 .1 .0 - 0) (c .before .before .before .before .before .before .before .before .before .before .before .args .bytes .now)) (g .1 .1 .0 + 1)
+all-walked : (c : tie.After-enum-told) → let g = c .before .before .before .before .before .before .frames .given .0 in Walked (take (g .1 .1 .0 - 0) (c .before .before .before .before .before .before .before .before .before .before .before .args .bytes .now)) (g .1 .0 + 1)
 all-walked c =
     let g = c .before .before .before .before .before .before .frames .given .0 in
-    walked-in _ _ _ _ _ _ (headed (c .before .before .before .before .before)) (g .1 .1 .1 .0 - 0) (g .1 .1 .0 + 1) (omega arith) (omega arith) _ (sym (c .before .before .walk-frames .ensures) ∙ c .enum-told .given .1)
+    walked-in _ _ _ _ _ (headed (c .before .before .before .before .before)) (g .1 .1 .0 - 0) (g .1 .0 + 1) (omega arith) (omega arith) _ (sym (c .before .before .walk-frames .ensures) ∙ c .enum-told .given .1)
 
 part-walk-frames-end : tie.Need-part-walk-frames-end
 part-walk-frames-end c = inside (c .before) .most
@@ -68,12 +69,12 @@ returns-2 c = sym (wrote-refused _ _ 0 (walk-fault _ _ (sym (c .before .before .
 returns-3 : tie.Need-returns-3
 returns-3 c =
     let g = c .before .before .before .before .before .before .before .frames .given .0 in
-    sym (wrote-refused _ _ _ (walk-to _ _ _ _ _ _ (headed (c .before .before .before .before .before .before)) (g .1 .1 .1 .0 - 0) (g .1 .1 .0 + 1) (omega arith) (omega arith) _ (sym (c .before .before .before .walk-frames .ensures) ∙ c .before .e2 .given .1)))
+    sym (wrote-refused _ _ _ (walk-to _ _ _ _ _ (headed (c .before .before .before .before .before .before)) (g .1 .1 .0 - 0) (g .1 .0 + 1) (omega arith) (omega arith) _ (sym (c .before .before .before .walk-frames .ensures) ∙ c .before .e2 .given .1)))
 
 returns-4 : tie.Need-returns-4
 returns-4 c =
     let told = c .before .before .before .before .before .before .before .before .before .before in
-    let m = told .before .before .before .before .before .before .frames .given .0 .1 .1 .0 + 1 in
+    let m = told .before .before .before .before .before .before .frames .given .0 .1 .0 + 1 in
     wrote-back _ _ _ (met told) (4 * m + 8) (trailer-many _ m (all-walked told .met))
     (omega (arith, inside (told .before .before .before .before .before) .most, c .before .before .before .before .before .before .before .before .before .if1 .left)) (c .before .before .copy .last .0) (c .before .before .before .before .before .before .trailer-of .result) (4 * m + 8 - 0) (omega arith) (c .before .before .before .before .before .before .trailer-of .ensures) (c .before .before .copy .ensures)
 
