@@ -7,14 +7,14 @@
 
 #include "guarded.h"
 
-enum { PALETTE = 768, HEADER = 128, PIXELS = 320 * 200, RING_STATES = 64, CHOICES = 12, MOST = 16384 };
+enum { PALETTE = 768, HEADER = 128, PIXELS = 320 * 200, RING_STATES = 64, CHOICES = 13, MOST = 16384 };
 
 /* The bytes before those that are handed in. */
-enum { ENTRY, WIDTH, HEIGHT, SIDES, LENGTHS, ROOM, STATES, FRAMES, CLOSED, END, END_HIGH, SPEED };
+enum { ENTRY, WIDTH, HEIGHT, SIDES, LENGTHS, ROOM, STATES, FRAMES, CLOSED, END, END_HIGH, SPEED, FORMAT };
 
 /* What the fuzzer is to look for, as the library has no counters of its own: answers, and how far into the bytes they
  * came. libFuzzer reads this section; AFL++ sees how often the loops of meet are run in each function. */
-__attribute__((section("__libfuzzer_extra_counters"))) static uint8_t met[1024];
+__attribute__((section("__libfuzzer_extra_counters"))) static uint8_t met[2048];
 
 __attribute__((always_inline)) static inline void meet(unsigned entry, uint32_t number, uint64_t place)
 {
@@ -24,7 +24,7 @@ __attribute__((always_inline)) static inline void meet(unsigned entry, uint32_t 
     while (times < number)
         times++;
     met[entry * 32 + (number & 31)] = 1;
-    met[512 + ((entry * 19 + (number & 31)) * 31 + log) % 512] = 1;
+    met[1024 + ((entry * 19 + (number & 31)) * 31 + log) % 1024] = 1;
 }
 
 static void must(int holds, const char *what)
@@ -41,6 +41,7 @@ static size_t size_of(const uint8_t *bytes) { return word(bytes) | (size_t)word(
 typedef struct {
     const uint8_t *choices, *bytes;
     size_t length;
+    uint32_t format;
     uint64_t width, height;
     /* The frame that is read and rewritten. */
     const uint8_t *frame;
@@ -98,7 +99,8 @@ static int same(const pair *a, const pair *b)
 static int same_player(const flic_player *a, const flic_player *b)
 {
     return a->width == b->width && a->height == b->height && a->frames == b->frames && a->number == b->number &&
-           a->place == b->place && a->first_end == b->first_end && a->speed == b->speed && a->last == b->last;
+           a->place == b->place && a->first_end == b->first_end && a->speed == b->speed && a->last == b->last &&
+           a->format == b->format;
 }
 
 static int same_state(const input *in, const uint8_t *picture, const uint8_t *palette, const pair *wanted)
@@ -113,19 +115,24 @@ static void reads_to(const input *in, const uint8_t *frame, size_t length, const
     memcpy(picture, from->picture.before, pixels_of(in));
     memcpy(palette, from->palette.before, PALETTE);
     flic_answer answer =
-        flic_read_frame(frame, length, in->width, in->height, picture, pixels_of(in), palette, PALETTE);
+        flic_read_frame(frame, length, in->format, in->width, in->height, picture, pixels_of(in), palette, PALETTE);
     must(answer.number == 0, "a frame that was written is refused");
     must(same_state(in, picture, palette, wanted), "a frame that was written gives another state");
 }
+
+/* Refusals of a frame's sub-chunks that come after those of its bodies in document 01's table. */
+static int is_of_frame(uint32_t format, uint32_t number) { return number == 19 || (format && number == 20); }
 
 static void read_frame(const input *in)
 {
     lent frame = lend_next(in->frame, in->frame_length);
     pair shown = lend_pair(in, 0, 1);
-    flic_answer answer = flic_read_frame(frame.bytes, frame.length, in->width, in->height, shown.picture.bytes,
-                                         shown.picture.length, shown.palette.bytes, shown.palette.length);
+    flic_answer answer =
+        flic_read_frame(frame.bytes, frame.length, in->format, in->width, in->height, shown.picture.bytes,
+                        shown.picture.length, shown.palette.bytes, shown.palette.length);
     meet(0, answer.number, answer.place);
-    must(answer.place <= frame.length && answer.number <= 13, "an answer out of range");
+    must(answer.place <= frame.length && (answer.number <= 13 || is_of_frame(in->format, answer.number)),
+         "an answer out of range");
     must(unchanged(&frame), "a frame was changed by its reading");
     must(answer.number == 0 || pair_unchanged(&shown), "a refused reading changed the state");
     must(unchanged_from(&shown.picture, pixels_of(in)) && unchanged_from(&shown.palette, PALETTE),
@@ -150,7 +157,7 @@ static void write_frame(const input *in)
     pair previous = lend_pair(in, 0, 1), next = lend_pair(in, 2, 3);
     lent out = lend_next(NULL, some_room(in, FLIC_FRAME_MOST));
     flic_written written = flic_write_frame(
-        in->width, in->height, previous.picture.bytes, previous.picture.length, previous.palette.bytes,
+        in->format, in->width, in->height, previous.picture.bytes, previous.picture.length, previous.palette.bytes,
         previous.palette.length, next.picture.bytes, next.picture.length, next.palette.bytes, next.palette.length,
         out.bytes, out.length);
     meet(1, written.number, written.length);
@@ -167,7 +174,7 @@ static void rewrite_frame(const input *in)
     pair previous = lend_pair(in, 0, 1), work = lend_pair(in, 2, 3), again = lend_pair(in, 2, 5);
     lent out = lend_next(NULL, some_room(in, FLIC_FRAME_MOST));
     flic_written written = flic_rewrite_frame(
-        frame.bytes, frame.length, in->width, in->height, previous.picture.bytes, previous.picture.length,
+        frame.bytes, frame.length, in->format, in->width, in->height, previous.picture.bytes, previous.picture.length,
         previous.palette.bytes, previous.palette.length, work.picture.bytes, work.picture.length, work.palette.bytes,
         work.palette.length, out.bytes, out.length);
     meet(2, written.number, written.place);
@@ -179,7 +186,7 @@ static void rewrite_frame(const input *in)
     reads_to(in, out.bytes, (size_t)written.length, &previous, &work);
     lent first = lend_next(out.bytes, (size_t)written.length), second = lend_next(NULL, (size_t)written.length);
     flic_written rewritten = flic_rewrite_frame(
-        first.bytes, first.length, in->width, in->height, previous.picture.bytes, previous.picture.length,
+        first.bytes, first.length, in->format, in->width, in->height, previous.picture.bytes, previous.picture.length,
         previous.palette.bytes, previous.palette.length, again.picture.bytes, again.picture.length,
         again.palette.bytes, again.palette.length, second.bytes, second.length);
     must(rewritten.number == 0 && rewritten.length == written.length,
@@ -192,8 +199,8 @@ static void play(const input *in)
 {
     static uint8_t picture[PIXELS], palette[PALETTE], pictures[RING_STATES][PIXELS], palettes[RING_STATES][PALETTE];
     flic_header header = flic_read_header(in->bytes, in->length);
-    must(header.number == 0 && header.width == in->width && header.height == in->height,
-         "the header of an accepted reel is refused, or has another size");
+    must(header.number == 0 && header.width == in->width && header.height == in->height && header.format == in->format,
+         "the header of an accepted reel is refused, or has another size or format");
     size_t frames = header.frames, pixels = pixels_of(in);
     flic_span spans[RING_STATES + 1];
     if (frames >= RING_STATES)
@@ -209,7 +216,7 @@ static void play(const input *in)
             const uint8_t *bytes = in->bytes + spans[frame].from;
             size_t length = spans[frame].end - spans[frame].from;
             flic_answer answer =
-                flic_read_frame(bytes, length, in->width, in->height, picture, pixels, palette, PALETTE);
+                flic_read_frame(bytes, length, in->format, in->width, in->height, picture, pixels, palette, PALETTE);
             must(answer.number == 0, "a frame of an accepted reel is refused");
             uint8_t *its_picture = pictures[frame % frames], *its_palette = palettes[frame % frames];
             if (lap || frame == frames)
@@ -228,7 +235,9 @@ static void check_reel(const input *in)
                                          first.palette.bytes, first.palette.length, second.picture.bytes,
                                          second.picture.length, second.palette.bytes, second.palette.length);
     meet(3, answer.number, answer.place);
-    must(answer.place <= reel.length && answer.number <= 16 && answer.number != 3, "an answer out of range");
+    must(answer.place <= reel.length &&
+             ((answer.number <= 16 && answer.number != 3) || is_of_frame(in->format, answer.number)),
+         "an answer out of range");
     must(unchanged(&reel), "a reel was changed by its check");
     must(answer.number != 1 || (pair_unchanged(&first) && pair_unchanged(&second)), "refusal 1 changed a pair");
     if (answer.number == 0) {
@@ -249,17 +258,50 @@ static void open_reel(const input *in)
          "an open gives another record");
 }
 
+static void open_fli(const input *in)
+{
+    lent bytes = lend_next(in->bytes, in->length);
+    uint32_t jiffies = in->choices[SPEED] * 257u + in->choices[CLOSED];
+    flic_reel_answer answer = flic_open_fli(in->width, in->height, jiffies, bytes.bytes, bytes.length);
+    meet(16, answer.number, 0);
+    int is_size = in->width == 320 && in->height == 200;
+    must(answer.number == (!is_size ? 2 : jiffies > 65535 ? 14 : bytes.length < HEADER ? 3 : 0) && answer.place == 0,
+         "an open of an FLI gives another refusal");
+    must(unchanged_from(&bytes, answer.number ? 0 : HEADER), "an open of an FLI changed a byte that isn't its own");
+    must(answer.number ? answer.reel.end == 0 && answer.reel.format == 0
+                       : answer.reel.end == HEADER && answer.reel.frames == 0 && answer.reel.format == FLIC_FLI,
+         "an open of an FLI gives another record");
+    for (size_t at = 18; answer.number == 0 && at < HEADER; at++)
+        must(bytes.bytes[at] == 0, "an open of an FLI wrote past its 18 bytes");
+}
+
+/* What was in jiffies is the same after both calls, and no delay is refused that a header holds. */
+static void delays(const input *in)
+{
+    uint32_t delay = word(in->choices + END) * (in->choices[STATES] & 1 ? 1u : in->choices[SPEED]);
+    flic_delay milliseconds = flic_in_milliseconds(delay), jiffies = flic_in_jiffies(delay);
+    meet(17, milliseconds.number + jiffies.number, delay);
+    must(milliseconds.number == (delay > 65535 ? 14 : 0) && (milliseconds.number == 0 || milliseconds.delay == 0),
+         "a delay in jiffies gives another refusal");
+    must(jiffies.number ? jiffies.number == 14 && jiffies.delay == 0 && delay > 936214
+                        : (uint64_t)jiffies.delay * 1000 >= (uint64_t)delay * 70,
+         "a delay in milliseconds gives another refusal, or a shorter delay");
+    flic_delay back = flic_in_jiffies(milliseconds.delay);
+    must(milliseconds.number || (back.number == 0 && back.delay == delay), "a delay in jiffies comes back as another");
+}
+
 static flic_reel record(const input *in)
 {
     uint64_t end = word(in->choices + END);
     if (end == 65535)
         end = in->length;
-    return (flic_reel){in->width, in->height, in->choices[FRAMES], end, in->choices[CLOSED] > 250};
+    return (flic_reel){in->width, in->height, in->choices[FRAMES], end, in->choices[CLOSED] > 250, in->format};
 }
 
 static int same_record(flic_reel a, flic_reel b)
 {
-    return a.width == b.width && a.height == b.height && a.frames == b.frames && a.end == b.end && a.closed == b.closed;
+    return a.width == b.width && a.height == b.height && a.frames == b.frames && a.end == b.end && a.closed == b.closed &&
+           a.format == b.format;
 }
 
 static void add_frame(const input *in)
@@ -301,10 +343,11 @@ static void close_reel(const input *in)
     }
     must(answer.reel.closed && answer.reel.end <= bytes.length, "a close gives another record");
     must(unchanged_from(&bytes, (size_t)answer.reel.end), "a close changed bytes past the ring");
+    must(answer.reel.format == (reel.format != 0), "a close gives another format");
     const uint8_t *header = bytes.bytes;
-    if (word(header + 4) != 0xAF12 || word(header + 8) != reel.width || word(header + 10) != reel.height ||
-        word(header + 12) != 8)
-        return; /* The header isn't that of an open of this size. */
+    if (word(header + 4) != (reel.format ? 0xAF11 : 0xAF12) || word(header + 8) != reel.width ||
+        word(header + 10) != reel.height || word(header + 12) != 8 || (reel.format && word(header + 14)))
+        return; /* The header isn't that of an open of this size and format. */
     flic_answer checked = flic_check_reel(
         bytes.bytes, (size_t)answer.reel.end, first.picture.bytes, first.picture.length, first.palette.bytes,
         first.palette.length, second.picture.bytes, second.picture.length, second.palette.bytes, second.palette.length);
@@ -355,12 +398,15 @@ static void read_header(const input *in)
     must(unchanged(&bytes), "a reading of a header changed the file");
     must(header.place == 0, "a header is refused elsewhere than at place 0");
     if (header.number)
-        must(!(header.width | header.height | header.frames | header.size | header.speed),
+        must(!(header.width | header.height | header.frames | header.size | header.speed | header.format),
              "a refused header tells something");
     else
         must(header.size >= HEADER && header.size <= bytes.length && header.width >= 1 && header.width <= 320 &&
                  header.height >= 1 && header.height <= 200 && header.frames >= 1 && header.frames <= 4000,
              "a header tells something out of range");
+    must(header.format == FLIC_FLC ||
+             (header.format == FLIC_FLI && header.width == 320 && header.height == 200 && header.speed <= 936214),
+         "a header tells another format, or of an FLI another size or a delay that it can't hold");
 }
 
 static void next_frame(const input *in)
@@ -446,7 +492,8 @@ static void start_player(const input *in)
     }
     flic_header header = flic_read_header(reel.bytes, reel.length);
     flic_span frame = flic_next_frame(reel.bytes, header.size, HEADER);
-    flic_player wanted = {header.width, header.height, header.frames, 1, frame.end, frame.end, header.speed, now};
+    flic_player wanted = {header.width, header.height, header.frames, 1, frame.end, frame.end, header.speed, now,
+                          header.format};
     must(same_player(&player, &wanted), "a start gives another player");
     tick_laps(in, player, &first);
 }
@@ -459,7 +506,7 @@ static void tick(const input *in)
     uint32_t speed = in->choices[SPEED] * 16843009u, last = in->choices[STATES] * 16843009u;
     uint32_t now = last + (in->choices[ROOM] < 128 ? speed : (in->choices[ROOM] - 128u) * 33818640u);
     flic_player before = {in->width, in->height, in->choices[FRAMES], (uint8_t)(in->choices[CLOSED] + 1), place,
-                          in->choices[STATES] * 5u, speed, last};
+                          in->choices[STATES] * 5u, speed, last, in->format};
     lent record = lend_next((const uint8_t *)&before, sizeof before);
     lent reel = lend_next(in->bytes, in->length);
     pair shown = lend_pair(in, 0, 1);
@@ -467,7 +514,9 @@ static void tick(const input *in)
     flic_ticked ticked = flic_tick(player, reel.bytes, reel.length, now, shown.picture.bytes, shown.picture.length,
                                    shown.palette.bytes, shown.palette.length);
     meet(13, ticked.number, ticked.place + ticked.event);
-    must(ticked.place <= reel.length && ticked.number <= 15 && ticked.event <= 2, "an answer out of range");
+    must(ticked.place <= reel.length && (ticked.number <= 15 || is_of_frame(in->format, ticked.number)) &&
+             ticked.event <= 2,
+         "an answer out of range");
     must(unchanged(&reel), "a reel was changed by a tick");
     must(unchanged_from(&shown.picture, pixels_of(in)) && unchanged_from(&shown.palette, PALETTE),
          "excess was changed");
@@ -558,16 +607,25 @@ int LLVMFuzzerTestOneInput(const uint8_t *data, size_t size)
     static void (*const entries[])(const input *) = {read_frame,    write_frame,   rewrite_frame, check_reel,
                                                      open_reel,     add_frame,     close_reel,    check_trailer,
                                                      write_trailer, list,          read_header,   next_frame,
-                                                     start_player,  tick,          replay,        tile_map};
+                                                     start_player,  tick,          replay,        tile_map,
+                                                     open_fli,      delays};
     if (size < CHOICES || size - CHOICES > MOST)
         return 0;
-    input in = {data, data + CHOICES, size - CHOICES, data[WIDTH], data[HEIGHT], data + CHOICES, size - CHOICES};
-    if (in.length > HEADER && word(in.bytes + 4) == 0xAF12) {
-        /* A reel: its own size, and its first frame. */
+    const uint8_t *bytes = data + CHOICES;
+    size_t length = size - CHOICES;
+    input in = {data, bytes, length, data[FORMAT], data[WIDTH], data[HEIGHT], bytes, length};
+    unsigned magic = in.length > HEADER ? word(in.bytes + 4) : 0;
+    if (magic == 0xAF12 || magic == 0xAF11) {
+        /* A reel: its own format and size, and its first frame. */
         in.frame += HEADER;
         in.frame_length -= HEADER;
+        in.format = magic == 0xAF11;
         in.width = word(in.bytes + 8);
         in.height = word(in.bytes + 10);
+    } else if (in.format & 1) {
+        /* A frame of an FLI, whose size no byte holds. */
+        in.width = 320;
+        in.height = 200;
     }
     sides = data[SIDES];
     lend_anew();

@@ -1,17 +1,22 @@
 //! Builds frames: valid sub-chunks of every kind with all their freedoms, or with a slip past a limit.
 
 use crate::model::decode::{has_data, Data, Frames, Screen};
-use crate::model::{kind, Document, CHUNK_HEADER, FRAME_HEADER, FRAME_TYPE, PALETTE_BYTES, PREFIX_TYPE};
+use crate::model::{kind, Document, Format, CHUNK_HEADER, FRAME_HEADER, FRAME_TYPE, PALETTE_BYTES, PREFIX_TYPE};
 use crate::rng::Rng;
 
 /// The kinds that a frame may hold, an unknown one (0) among them.
 pub const KINDS: [u16; 9] =
     [kind::COLOR256, kind::SS2, kind::COLOR, kind::LC, kind::BLACK, kind::BRUN, kind::COPY, kind::PSTAMP, UNKNOWN];
 
+/// Those that a frame of an FLI may hold, and those that it may not.
+pub const FLI_KINDS: [u16; 7] = [kind::COLOR256, kind::COLOR, kind::LC, kind::BLACK, kind::BRUN, kind::COPY, UNKNOWN];
+pub const NOT_IN_FLI: [u16; 2] = [kind::SS2, kind::PSTAMP];
+
 /// Stands for any kind that document 01 doesn't name.
 pub const UNKNOWN: u16 = 0;
 
-const UNKNOWN_KINDS: [u16; 14] = [0, 1, 3, 5, 6, 8, 14, 17, 19, 0x0104, 0x010F, 0x8007, FRAME_TYPE, PREFIX_TYPE];
+const UNKNOWN_KINDS: [u16; 16] =
+    [0, 1, 3, 5, 6, 8, 14, 17, 19, 0x0104, 0x0107, 0x010F, 0x0112, 0x8007, FRAME_TYPE, PREFIX_TYPE];
 
 pub fn is_known(kind: u16) -> bool {
     KINDS.contains(&kind) && kind != UNKNOWN
@@ -82,9 +87,40 @@ pub fn frame_of(chunks: &[Chunk]) -> Vec<u8> {
     Frame { chunks: chunks.to_vec(), ..Frame::default() }.bytes()
 }
 
+/// A frame for each refusal that a frame of an FLI can meet, with its number: behind a BLACK and a colour, so that it has done
+/// something before.
+pub fn faulty_fli_frames() -> Vec<(u32, Vec<u8>)> {
+    let of = |kind, body: &[u8]| Chunk { kind, body: body.to_vec() };
+    let behind = |chunk: Chunk| frame_of(&[of(kind::BLACK, &[]), of(kind::COLOR256, &[1, 0, 7, 1, 1, 2, 3]), chunk]);
+    let mut frames: Vec<(u32, Vec<u8>)> = [
+        (7, kind::COPY, &[9, 9][..]),
+        (7, kind::LC, &[0, 0, 1, 0]),
+        (8, kind::BRUN, &[1, 0, 9]),
+        (9, kind::BRUN, &[3, 127, 9, 127, 9, 67, 9]),
+        (9, kind::LC, &[0, 0, 1, 0, 1, 255, 66]),
+        (10, kind::LC, &[200, 0, 1, 0, 0]),
+        (12, kind::COLOR256, &[1, 0, 255, 2, 1, 2, 3, 4, 5, 6]),
+        (13, kind::COLOR, &[1, 0, 0, 1, 0, 64, 0]),
+        (19, kind::COLOR, &[0, 0, 9, 9]),
+        (20, kind::SS2, &[0, 0]),
+        (20, kind::PSTAMP, &[]),
+    ]
+    .map(|(number, kind, body)| (number, behind(of(kind, body))))
+    .to_vec();
+    let whole = frame_of(&[of(kind::BLACK, &[])]);
+    let with = |at: usize, byte: u8| {
+        let mut frame = whole.clone();
+        frame[at] = byte;
+        frame
+    };
+    frames.extend([(4, with(6, 2)), (5, with(4, 0)), (6, with(0, 15)), (6, with(16, 5))]);
+    frames
+}
+
 /// Makes bodies for one size of picture.
 pub struct Maker<'a> {
     pub rng: &'a mut Rng,
+    pub format: Format,
     pub width: usize,
     pub height: usize,
     /// How rarely a limit is passed by one, or a rule broken: once in so many turns, or never.
@@ -102,14 +138,30 @@ impl Maker<'_> {
             _ if self.rng.once_in(40) => return self.frame_of_many(),
             _ => self.rng.between(5, 9),
         };
-        let kinds: Vec<u16> = (0..count).map(|_| self.rng.pick(&KINDS)).collect();
+        let kinds: Vec<u16> = (0..count).map(|_| self.kind()).collect();
         self.frame_of_kinds(&kinds)
+    }
+
+    /// A kind that the format has; in an FLI a slip gives one that it hasn't.
+    pub fn kind(&mut self) -> u16 {
+        let kinds: &[u16] = match self.format {
+            Format::Flc => &KINDS,
+            Format::Fli => match self.slip() {
+                true => &NOT_IN_FLI,
+                false => &FLI_KINDS,
+            },
+        };
+        self.rng.pick(kinds)
     }
 
     /// A frame of more sub-chunks than one byte can count.
     fn frame_of_many(&mut self) -> Frame {
         let count = self.rng.between(250, 600);
-        let kinds: Vec<u16> = (0..count).map(|_| self.rng.pick(&[kind::BLACK, kind::PSTAMP, UNKNOWN])).collect();
+        let many = match self.format {
+            Format::Flc => [kind::BLACK, kind::PSTAMP, UNKNOWN],
+            Format::Fli => [kind::BLACK, UNKNOWN, UNKNOWN],
+        };
+        let kinds: Vec<u16> = (0..count).map(|_| self.rng.pick(&many)).collect();
         self.frame_of_kinds(&kinds)
     }
 
@@ -291,9 +343,10 @@ impl Maker<'_> {
     fn lc(&mut self) -> Vec<u8> {
         let first = self.up_to(self.height);
         let rows = self.up_to(self.height.saturating_sub(first));
+        let counted = if self.slip() { rows + 1 } else { rows };
         let mut body = Vec::new();
         body.extend((first as u16).to_le_bytes());
-        body.extend((rows as u16).to_le_bytes());
+        body.extend((counted as u16).to_le_bytes());
         for _ in 0..rows {
             self.lc_row(&mut body);
         }
@@ -406,36 +459,49 @@ impl Maker<'_> {
 mod tests {
     use super::*;
     use crate::model::MODEL;
-    use crate::sizes::right_size;
+    use crate::sizes::{right_size, size_of};
     use crate::states::State;
 
-    fn answer(frame: &Frame, width: usize, height: usize) -> u32 {
+    /// The answer to a frame of this seed.
+    fn answer(seed: u64, format: Format, slips: Option<usize>) -> u32 {
+        let mut rng = Rng::new(seed);
+        let (width, height) = size_of(&mut rng, format, right_size);
+        let frame = Maker { rng: &mut rng, format, width, height, slips }.frame();
         let mut shown = State::blank(width * height);
-        match MODEL.read_frame(&frame.bytes(), width as u64, height as u64, shown.work()) {
+        match MODEL.read_frame(&frame.bytes(), format.number(), width as u64, height as u64, shown.work()) {
             Ok(()) => 0,
             Err(refusal) => refusal.number,
         }
     }
 
     #[test]
+    fn each_fault_of_an_fli_has_its_number() {
+        for (number, frame) in faulty_fli_frames() {
+            let mut shown = State::blank(64_000);
+            let answer = MODEL.read_frame(&frame, 1, 320, 200, shown.work());
+            assert_eq!(answer.map_err(|refusal| refusal.number), Err(number));
+        }
+    }
+
+    #[test]
     fn frames_without_slips_are_accepted() {
-        for seed in 0..4000 {
-            let mut rng = Rng::new(seed);
-            let (width, height) = right_size(&mut rng);
-            let frame = Maker { rng: &mut rng, width, height, slips: None }.frame();
-            assert_eq!(answer(&frame, width, height), 0, "seed {seed}");
+        for (format, seeds) in [(Format::Flc, 4_000), (Format::Fli, 300)] {
+            for seed in 0..seeds {
+                assert_eq!(answer(seed, format, None), 0, "{format:?}, seed {seed}");
+            }
         }
     }
 
     #[test]
     fn slips_reach_every_refusal_of_a_body() {
-        let mut met = [0; 20];
-        for seed in 0..4000 {
-            let mut rng = Rng::new(seed);
-            let (width, height) = right_size(&mut rng);
-            let frame = Maker { rng: &mut rng, width, height, slips: Some(12) }.frame();
-            met[answer(&frame, width, height) as usize] += 1;
+        for (format, seeds) in [(Format::Flc, 4_000), (Format::Fli, 1_000)] {
+            let mut met = [0; 21];
+            (0..seeds).for_each(|seed| met[answer(seed, format, Some(12)) as usize] += 1);
+            let numbers: &[usize] = match format {
+                Format::Flc => &[7, 8, 9, 10, 11, 12, 13, 19],
+                Format::Fli => &[7, 8, 9, 10, 12, 13, 19, 20],
+            };
+            assert!(numbers.iter().all(|number| met[*number] > 0), "{format:?}: met {met:?}");
         }
-        assert!(met[7..14].iter().chain(&met[19..]).all(|times| *times > 0), "met {met:?}");
     }
 }

@@ -2,6 +2,7 @@
 
 pub mod cases;
 pub mod damage;
+pub mod fli_pictures;
 pub mod frames;
 pub mod huge;
 pub mod model;

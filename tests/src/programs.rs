@@ -1,11 +1,12 @@
 //! The six test programs that compare single calls, each with its families and what it must meet.
 
-use crate::model::{MAX_HEIGHT, MAX_WIDTH, PALETTE_BYTES};
+use crate::model::{Format, MAX_HEIGHT, MAX_WIDTH, PALETTE_BYTES};
 use crate::players::night::{kept_time, night, Night, NIGHT};
 use crate::rng::Rng;
 use crate::runner::calls::{
-    AddCase, CheckCase, CheckTrailerCase, CloseCase, HeaderCase, ListCase, MarkedCase, OpenCase, ReadCase, ReplayCase,
-    RewriteCase, SearchCase, StartCase, StepCase, TickCase, TileMapCase, WriteCase, WriteTrailerCase,
+    AddCase, CheckCase, CheckTrailerCase, CloseCase, HeaderCase, JiffiesCase, ListCase, MarkedCase, MillisecondsCase,
+    OpenCase, OpenFliCase, ReadCase, ReplayCase, RewriteCase, SearchCase, StartCase, StepCase, TickCase, TileMapCase,
+    WriteCase, WriteTrailerCase,
 };
 use crate::runner::command::fail;
 use crate::runner::compare::Comparer;
@@ -14,7 +15,7 @@ use crate::runner::inputs::{listed, Case};
 use crate::runner::met::{AROUND, LIVE, PLAY};
 use crate::runner::program::Program;
 use crate::states::{picture, State};
-use crate::write_cases::{REWRITE_FAMILIES, SEARCH_FAMILIES, WRITE_FAMILIES};
+use crate::write_cases::{FLI_REWRITE_FAMILIES, FLI_WRITE_FAMILIES, REWRITE_FAMILIES, SEARCH_FAMILIES, WRITE_FAMILIES};
 use crate::wrong::{seen_in_players, seen_in_reading, seen_in_reels, seen_in_tiles, seen_in_trailers, seen_in_writing};
 use crate::{cases, huge, players, reels, tiles, trailers};
 use flic_boundary::FRAME_MOST;
@@ -24,7 +25,7 @@ pub fn reading() -> Program {
         name: "reading",
         unit: "frames",
         base: 20_260,
-        families: listed(&cases::FAMILIES),
+        families: [listed(&cases::FAMILIES), listed(&cases::FLI_FAMILIES)].concat(),
         least: 800_000,
         rows: vec![&ReadCase::ROW],
         examples: of_reading(),
@@ -38,13 +39,20 @@ pub fn writing() -> Program {
         name: "writing",
         unit: "frames",
         base: 20_261,
-        families: [listed(&WRITE_FAMILIES), listed(&REWRITE_FAMILIES), listed(&SEARCH_FAMILIES)].concat(),
+        families: [
+            listed(&WRITE_FAMILIES),
+            listed(&REWRITE_FAMILIES),
+            listed(&SEARCH_FAMILIES),
+            listed(&FLI_WRITE_FAMILIES),
+            listed(&FLI_REWRITE_FAMILIES),
+        ]
+        .concat(),
         least: 310_000,
         rows: vec![&WriteCase::ROW, &RewriteCase::ROW, &SearchCase::ROW],
         examples: of_writing(),
         seen_wrongs: seen_in_writing,
         besides: |library, base| {
-            largest_picture(library, base);
+            largest_pictures(library, base);
             most_turns(base);
         },
     }
@@ -55,9 +63,18 @@ pub fn reels() -> Program {
         name: "reels",
         unit: "calls",
         base: 20_262,
-        families: listed(&reels::families::FAMILIES),
+        families: [listed(&reels::families::FAMILIES), listed(&reels::families::FLI_FAMILIES)].concat(),
         least: 350_000,
-        rows: vec![&CheckCase::ROW, &OpenCase::ROW, &AddCase::ROW, &CloseCase::ROW, &PLAY],
+        rows: vec![
+            &CheckCase::ROW,
+            &OpenCase::ROW,
+            &OpenFliCase::ROW,
+            &MillisecondsCase::ROW,
+            &JiffiesCase::ROW,
+            &AddCase::ROW,
+            &CloseCase::ROW,
+            &PLAY,
+        ],
         examples: of_reels(),
         seen_wrongs: seen_in_reels,
         besides: huge_reels,
@@ -69,7 +86,7 @@ pub fn trailers() -> Program {
         name: "trailers",
         unit: "calls",
         base: 20_263,
-        families: listed(&trailers::families::FAMILIES),
+        families: [listed(&trailers::families::FAMILIES), listed(&trailers::families::FLI_FAMILIES)].concat(),
         least: 1_200_000,
         rows: vec![
             &CheckTrailerCase::ROW,
@@ -90,7 +107,7 @@ pub fn players() -> Program {
         name: "players",
         unit: "calls and lists",
         base: 20_265,
-        families: listed(&players::families::FAMILIES),
+        families: [listed(&players::families::FAMILIES), listed(&players::families::FLI_FAMILIES)].concat(),
         least: 470_000,
         rows: vec![&StartCase::ROW, &TickCase::ROW, &ReplayCase::ROW, &LIVE],
         examples: of_players(),
@@ -113,18 +130,23 @@ pub fn tiles() -> Program {
     }
 }
 
-/// The largest picture and every colour change to noise: an output of FLIC_FRAME_MOST bytes holds the frame.
-fn largest_picture(library: Comparer, base: u64) {
+/// The largest picture and every colour change to noise: an output of FLIC_FRAME_MOST bytes holds the frame of each format.
+fn largest_pictures(library: Comparer, base: u64) {
+    Format::BOTH.into_iter().for_each(|format| largest_picture(library, format, base));
+}
+
+fn largest_picture(library: Comparer, format: Format, base: u64) {
     let mut rng = Rng::new(base);
     let pixels = (MAX_WIDTH * MAX_HEIGHT) as usize;
     let mut noise = || State { picture: rng.bytes(pixels), palette: rng.bytes(PALETTE_BYTES) };
     let (previous, next) = (noise(), noise());
     let out = vec![0xEE; FRAME_MOST];
-    let case = Case::Write(WriteCase { width: MAX_WIDTH, height: MAX_HEIGHT, previous, next, out });
+    let (width, height) = (MAX_WIDTH, MAX_HEIGHT);
+    let case = Case::Write(WriteCase { format: format.number(), width, height, previous, next, out });
     match library.case(&case, base) {
         Ok(agreed) if agreed.told.number == 0 => {
             let length = agreed.told.length();
-            println!("writing: the largest picture of noise takes {length} of FLIC_FRAME_MOST bytes");
+            println!("writing: the largest picture of noise takes {length} of FLIC_FRAME_MOST bytes, {format:?}");
         }
         Ok(agreed) => {
             let refused = format!("writing: the largest picture is refused {}", agreed.told.number);

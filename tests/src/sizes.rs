@@ -1,7 +1,23 @@
-//! Sizes of pictures and lengths of lent slices, right ones and wrong ones.
+//! Formats by their numbers, sizes of pictures and lengths of lent slices, right ones and wrong ones.
 
-use crate::model::PALETTE_BYTES;
+use crate::model::{Format, FLI_HEIGHT, FLI_WIDTH, PALETTE_BYTES};
 use crate::rng::Rng;
+
+/// A number that tells this format: any but 0 is FLI.
+pub fn number_of(rng: &mut Rng, format: Format) -> u32 {
+    match format {
+        Format::Flc => 0,
+        Format::Fli => rng.pick(&[1, 1, 1, 1, 2, 3, 255, 256, 1 << 16, 1 << 31, u32::MAX - 1, u32::MAX]),
+    }
+}
+
+/// A size that the format takes: of an FLC one of these, of an FLI the only one.
+pub fn size_of(rng: &mut Rng, format: Format, of_flc: fn(&mut Rng) -> (usize, usize)) -> (usize, usize) {
+    match format {
+        Format::Flc => of_flc(rng),
+        Format::Fli => (FLI_WIDTH as usize, FLI_HEIGHT as usize),
+    }
+}
 
 /// A size that is within range: mostly small, odd and even widths, single rows and columns, and the largest.
 pub fn right_size(rng: &mut Rng) -> (usize, usize) {
@@ -27,8 +43,15 @@ const WRONG_WIDTHS: [u64; 9] = [0, 321, 322, (1 << 16) + 4, 1 << 32, (1 << 32) +
 
 const WRONG_HEIGHTS: [u64; 9] = [0, 201, 202, (1 << 16) + 4, 1 << 32, (1 << 32) + 3, 1 << 63, u64::MAX - 1, u64::MAX];
 
-/// A size of which at least one side is out of range, products that wrap included.
-pub fn wrong_size(rng: &mut Rng) -> (u64, u64) {
+/// Sizes that are right but for an FLI.
+const ALMOST_FLI: [(u64, u64); 8] =
+    [(319, 200), (320, 199), (200, 320), (320, 1), (1, 200), (1, 1), (64, 200), (320, 100)];
+
+/// A size of which at least one side is out of range, products that wrap included; of an FLI any but the right one.
+pub fn wrong_size(rng: &mut Rng, format: Format) -> (u64, u64) {
+    if format == Format::Fli && rng.once_in(2) {
+        return rng.pick(&ALMOST_FLI);
+    }
     let (width, height) = right_size(rng);
     let wrong_width = rng.pick(&WRONG_WIDTHS);
     let wrong_height = rng.pick(&WRONG_HEIGHTS);
@@ -39,10 +62,10 @@ pub fn wrong_size(rng: &mut Rng) -> (u64, u64) {
     }
 }
 
-/// A size out of range, or this one.
-pub fn wrong_or_right(rng: &mut Rng, width: usize, height: usize) -> (u64, u64) {
+/// A size that the format doesn't take, or this one.
+pub fn wrong_or_right(rng: &mut Rng, format: Format, width: usize, height: usize) -> (u64, u64) {
     match rng.below(2) {
-        0 => wrong_size(rng),
+        0 => wrong_size(rng, format),
         _ => (width as u64, height as u64),
     }
 }

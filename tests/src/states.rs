@@ -1,6 +1,7 @@
 //! Pictures and palettes, and what may come after them: the inputs of the writing tests.
 
-use crate::model::PALETTE_BYTES;
+use crate::fli_pictures;
+use crate::model::{Format, PALETTE_BYTES};
 use crate::rng::Rng;
 use crate::sizes::Lengths;
 use flic_boundary::{Pair, PairMut};
@@ -27,16 +28,21 @@ impl State {
 }
 
 /// A state of one of several makes.
-pub fn state(rng: &mut Rng, width: usize, height: usize) -> State {
-    State { picture: picture(rng, width, height), palette: palette(rng) }
+pub fn state(rng: &mut Rng, format: Format, width: usize, height: usize) -> State {
+    let picture = match format {
+        Format::Flc => picture(rng, width, height),
+        Format::Fli => fli_pictures::picture(rng),
+    };
+    State { picture, palette: palette(rng) }
 }
 
 /// A state that may follow `previous`.
-pub fn next_state(rng: &mut Rng, previous: &State, width: usize, height: usize) -> State {
-    State {
-        picture: next_picture(rng, &previous.picture, width, height),
-        palette: next_palette(rng, &previous.palette),
-    }
+pub fn next_state(rng: &mut Rng, format: Format, previous: &State, width: usize, height: usize) -> State {
+    let picture = match format {
+        Format::Flc => next_picture(rng, &previous.picture, width, height),
+        Format::Fli => fli_pictures::next_picture(rng, &previous.picture),
+    };
+    State { picture, palette: next_palette(rng, &previous.palette) }
 }
 
 /// Chance in slices of these lengths.

@@ -13,6 +13,7 @@ use damaging::met::Met;
 use damaging::self_check::{seen_wrongs, trespass, unended};
 use damaging::stored::{self, Answer, Collection};
 use damaging::twin::{reading_calls, twin};
+use flic_tests::model::Format;
 use flic_tests::rng::mix;
 use flic_tests::runner::calls::Call;
 use flic_tests::runner::command::fail;
@@ -55,13 +56,14 @@ fn make_calls(
 ) -> Result<(), Found> {
     for (call, seed) in calls {
         let entry = call.row().function;
-        let told = LIBRARY.call(&*call, seed).map_err(|difference| (entry, difference))?.told;
-        met.count(entry, told.number);
-        answers.insert((entry, told.number));
+        let (format, told) =
+            (call.format(), LIBRARY.call(&*call, seed).map_err(|difference| (entry, difference))?.told);
+        met.count(entry, format, told.number);
+        answers.insert((entry, format, told.number));
         if entry == "read_frame" {
-            for mark in marks(case.frame_bytes(), &told) {
+            for mark @ (name, kind) in marks(format, case.frame_bytes(), &told) {
                 met.ways.count(mark);
-                answers.insert(mark);
+                answers.insert((name, Format::Flc, kind));
             }
         }
     }
@@ -77,7 +79,7 @@ fn each_entry(case: &Case, met: &mut Met, keep: &mut dyn FnMut(&Case)) -> Result
     let mut answers = BTreeSet::new();
     keep(case);
     make_calls(case, calls(case), met, &mut answers)
-        .and_then(|()| life(case, &mut |entry, number| met.count(entry, number)))
+        .and_then(|()| life(case, &mut |entry, format, number| met.count(entry, format, number)))
         .map_err(|found| Box::new((case.clone(), found)))?;
     if let Some(twin) = twin(case) {
         keep(&twin);
@@ -147,7 +149,8 @@ fn require_all_met(met: &Met) {
 }
 
 fn print_case(case: &Case) {
-    println!("  size {} by {}, speed {}, {:?}", case.width, case.height, case.speed, case.reel);
+    let Case { format, width, height, speed, reel, .. } = case;
+    println!("  format {format}, size {width} by {height}, speed {speed}, {reel:?}");
     println!("  rooms {} for a frame, {} for a listing; frame at {:?}", case.frame_room, case.list_room, case.frame);
     for (name, state) in [("first", &case.first), ("second", &case.second)] {
         print_bytes(&format!("{name} picture"), &state.picture);
@@ -203,7 +206,7 @@ fn each_entry_aloud(case: &Case) -> Result<(), Found> {
         println!("    library and model both answer {number}");
     }
     println!("  a whole reel from its states ..");
-    life(case, &mut |_, _| {})
+    life(case, &mut |_, _, _| {})
 }
 
 fn stored_cases() {

@@ -1,9 +1,10 @@
 //! One case of the damage run: what all entry points are handed, and the file in which it is kept.
 
 use super::numbers;
+use super::packed::{packed, unpacked};
 use super::spans::Spans;
 use flic_boundary::{Player, Reel};
-use flic_tests::model::FILE_HEADER;
+use flic_tests::model::{Format, FILE_HEADER, MODEL};
 use flic_tests::rng::{mix, Rng};
 use flic_tests::states::State;
 use std::ops::Range;
@@ -14,9 +15,12 @@ pub struct Case {
     /// Gives the bytes that an output holds before the call, the sides on which guard pages stand, the offset from which
     /// the next frame is looked for, a player's record and the readings of its clock.
     pub seed: u64,
+    /// The format that the calls on frames are told, and that a player's record has.
+    pub format: u32,
     /// The size that is handed to the calls on frames, and to an open.
     pub width: u64,
     pub height: u64,
+    /// Milliseconds, and jiffies to an open of an FLI; either to the calls on delays.
     pub speed: u32,
     /// The record that is handed to an add and to a close.
     pub reel: Reel,
@@ -36,8 +40,8 @@ pub struct Case {
 const OFFSET_MARK: u64 = 0x0FF5;
 const PLAYER_MARK: u64 = 0x91A7;
 const READINGS_MARK: u64 = 0xC10C;
-const MARK: [u8; 8] = *b"FLICdmg1";
-const NUMBERS: usize = 18;
+const MARK: [u8; 8] = *b"FLICdmg2";
+const NUMBERS: usize = 20;
 
 /// How many bytes the file of a case has before its slices.
 const HEADER: usize = MARK.len() + 8 * NUMBERS;
@@ -48,7 +52,7 @@ impl Case {
     }
 
     fn numbers(&self) -> [u64; NUMBERS] {
-        let Reel { width, height, frames, end, closed } = self.reel;
+        let Reel { width, height, frames, end, closed, format } = self.reel;
         let lengths = self.slices().map(|slice| slice.len() as u64);
         [
             self.seed,
@@ -69,15 +73,22 @@ impl Case {
             lengths[2],
             lengths[3],
             lengths[4],
+            self.format.into(),
+            format.into(),
         ]
     }
 
-    /// The case as a file: a mark, the numbers in 8 bytes each, then the slices.
+    /// The case as a file: a mark, the numbers in 8 bytes each, then the slices, packed.
     pub fn file(&self) -> Vec<u8> {
         let mut file = MARK.to_vec();
         file.extend(self.numbers().iter().flat_map(|number| number.to_le_bytes()));
-        self.slices().iter().for_each(|slice| file.extend(*slice));
+        self.slices().iter().for_each(|slice| file.extend(packed(slice)));
         file
+    }
+
+    /// The format that is told.
+    pub fn told(&self) -> Format {
+        MODEL.formats.told(self.format)
     }
 
     /// The frame that is read and rewritten.
@@ -113,8 +124,8 @@ impl Case {
         let place = if rng.once_in(2) { self.frame.start as u64 } else { place };
         let number = numbers::frame_number(rng, frames);
         let last = rng.draw() as u32;
-        let Case { width, height, speed, .. } = *self;
-        let player = Player { width, height, frames, number, place, first_end, speed, last };
+        let Case { format, width, height, speed, .. } = *self;
+        let player = Player { width, height, frames, number, place, first_end, speed, last, format };
         (player, last.wrapping_add(numbers::difference(rng, speed)))
     }
 
@@ -140,12 +151,7 @@ impl Case {
             *number = u64::from_le_bytes(bytes.try_into().expect("a chunk of 8 bytes"));
         }
         let mut rest = &file[HEADER..];
-        let mut slice = |length: u64| {
-            let length = usize::try_from(length).ok().filter(|length| *length <= rest.len());
-            let (taken, left) = rest.split_at(length.ok_or("the file of a case is cut")?);
-            rest = left;
-            Ok::<Vec<u8>, String>(taken.to_vec())
-        };
+        let mut slice = |length: u64| unpacked(&mut rest, length).ok_or("the file of a case is cut");
         let first = State { picture: slice(numbers[13])?, palette: slice(numbers[14])? };
         let second = State { picture: slice(numbers[15])?, palette: slice(numbers[16])? };
         let bytes = slice(numbers[17])?;
@@ -155,6 +161,7 @@ impl Case {
         }
         Ok(Case {
             seed: numbers[0],
+            format: numbers[18] as u32,
             width: numbers[1],
             height: numbers[2],
             speed: numbers[3] as u32,
@@ -164,6 +171,7 @@ impl Case {
                 frames: numbers[6],
                 end: numbers[7],
                 closed: numbers[8] as u32,
+                format: numbers[19] as u32,
             },
             frame_room: numbers[9] as usize,
             list_room: numbers[10] as usize,

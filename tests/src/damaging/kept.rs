@@ -6,7 +6,7 @@ use std::fs::{create_dir_all, remove_file, OpenOptions};
 use std::path::{Path, PathBuf};
 
 /// More than any case takes.
-const LENGTH: usize = 1 << 20;
+const LENGTH: usize = 1 << 22;
 
 pub struct Kept {
     path: PathBuf,

@@ -5,10 +5,10 @@ use super::case::Case;
 use super::compare::{Found, LIBRARY};
 use super::numbers;
 use flic_boundary::Reel;
-use flic_tests::model::{accepted_size, FILE_HEADER, MODEL};
+use flic_tests::model::{accepted_size, Format, FILE_HEADER, MODEL};
 use flic_tests::rng::{mix, Rng};
 use flic_tests::runner::calls::{
-    AddCase, CheckCase, CheckTrailerCase, CloseCase, HeaderCase, ListCase, OpenCase, StartCase, StepCase,
+    AddCase, CheckCase, CheckTrailerCase, CloseCase, HeaderCase, ListCase, OpenCase, OpenFliCase, StartCase, StepCase,
     WriteTrailerCase,
 };
 use flic_tests::runner::compare::{Agreed, Difference};
@@ -23,11 +23,12 @@ const LIFE_MARK: u64 = 0x11FE;
 /// Pictures up to this many pixels are given a life in each case, larger ones now and then.
 const SMALL: usize = 2_000;
 
-/// Hands on each call's entry point and the number that library and model both answer.
-pub type Count<'a> = &'a mut dyn FnMut(&'static str, u32);
+/// Hands on each call's entry point, its format and the number that library and model both answer.
+pub type Count<'a> = &'a mut dyn FnMut(&'static str, Format, u32);
 
 /// A reel while it is built, call by call.
 struct Life<'a> {
+    format: Format,
     rng: Rng,
     count: Count<'a>,
     bytes: Vec<u8>,
@@ -38,17 +39,23 @@ struct Life<'a> {
 /// Builds a reel from the case's states with the library and with the model; now and then a record is altered.
 pub fn life(case: &Case, count: Count) -> Result<(), Found> {
     let mut rng = Rng::new(mix(case.seed, LIFE_MARK));
-    let Ok((width, height)) = accepted_size(case.width, case.height) else { return Ok(()) };
+    let format = case.told();
+    let Ok((width, height)) = accepted_size(format, case.width, case.height) else { return Ok(()) };
     let pixels = width * height;
     let is_short = |state: &State| state.picture.len() < pixels || state.palette.len() < 768;
-    if is_short(&case.first) || is_short(&case.second) || pixels > SMALL && !rng.once_in(20) {
+    let seldom = if format == Format::Flc { 20 } else { 4 };
+    if is_short(&case.first) || is_short(&case.second) || pixels > SMALL && !rng.once_in(seldom) {
         return Ok(());
     }
     let room = 128 + rng.between(2, 4) * ample_room(pixels);
     let bytes = rng.bytes(room);
-    let mut life = Life { rng, count, bytes, reel: Reel::default(), altered: false };
+    let mut life = Life { format, rng, count, bytes, reel: Reel::default(), altered: false };
     let bytes = life.bytes.clone();
-    life.builds(OpenCase { width: case.width, height: case.height, speed: case.speed, bytes })?;
+    let Case { width: w, height: h, speed, .. } = *case;
+    match format {
+        Format::Flc => life.builds(OpenCase { width: w, height: h, speed, bytes })?,
+        Format::Fli => life.builds(OpenFliCase { width: w, height: h, jiffies: speed % 65_536, bytes })?,
+    };
     let mut shown = State::blank(pixels);
     let mut asked = Vec::new();
     for next in [&case.first, &case.second, &case.first].into_iter().take(1 + (case.seed % 3) as usize) {
@@ -86,7 +93,7 @@ impl Life<'_> {
         let (case, seed) = (case.into(), self.rng.draw());
         let function = case.call().map_or("read_frame", |call| call.row().function);
         let agreed = LIBRARY.case(&case, seed).map_err(|difference| (function, difference))?;
-        (self.count)(function, agreed.told.number);
+        (self.count)(function, case.format(), agreed.told.number);
         Ok(agreed)
     }
 
@@ -128,10 +135,16 @@ impl Life<'_> {
         if self.altered {
             self.call(start)?;
         } else {
-            self.call(PlayCase { bytes: bytes.clone(), width, height, states: states.clone() })?;
+            let (format, played) = (self.format, states.clone());
+            self.call(PlayCase { bytes: bytes.clone(), format, width, height, states: played })?;
             self.done(LiveCase { start, readings, states })?;
         }
         let file = [&bytes[..], &vec![0xEE; trailer_length(&bytes)]].concat();
+        if self.format == Format::Fli {
+            self.call(WriteTrailerCase(file.clone()))?;
+            self.call(CheckTrailerCase(file))?;
+            return self.step_through(bytes);
+        }
         let Agreed { told, mut left } = self.done(WriteTrailerCase(file))?;
         let file = left.swap_remove(0);
         if told.number == 0 {

@@ -10,6 +10,7 @@ pub mod make;
 pub mod met;
 pub mod mutate;
 pub mod numbers;
+pub mod packed;
 pub mod pages;
 pub mod self_check;
 pub mod spans;

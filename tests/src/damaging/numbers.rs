@@ -1,15 +1,24 @@
-//! Damages what is handed in beside bytes: sizes, records, readings, and the lengths of lent slices.
+//! Damages what is handed in beside bytes: formats, sizes, records, readings, and the lengths of lent slices.
 
 use flic_boundary::Reel;
-use flic_tests::model::MAX_FRAMES;
+use flic_tests::model::{Format, MAX_FRAMES};
 use flic_tests::rng::Rng;
 use flic_tests::sizes::{lengths, right_size, wrong_size, Lengths};
+
+/// The number of a reel's format, or now and then another.
+pub fn format(rng: &mut Rng, right: Format) -> u32 {
+    if rng.once_in(12) {
+        rng.pick(&[0, 1, 2, 256, 1 << 31, u32::MAX])
+    } else {
+        right.number()
+    }
+}
 
 /// The size that a reel has, or now and then another.
 pub fn size(rng: &mut Rng, width: usize, height: usize) -> (u64, u64) {
     let (width, height) = (width as u64, height as u64);
     match rng.below(24) {
-        0 => wrong_size(rng),
+        0 => wrong_size(rng, Format::Flc),
         1 => (width.wrapping_add(1), height),
         2 => (width.saturating_sub(1), height),
         3 => (width, height.wrapping_add(1)),
@@ -28,10 +37,11 @@ pub fn record(rng: &mut Rng, right: Reel, length: usize) -> Reel {
     let mut reel = right;
     let times = rng.pick(&[0, 0, 0, 0, 1, 1, 2]);
     for _ in 0..times {
-        match rng.below(8) {
+        match rng.below(9) {
             0..=3 => reel.end = end(rng, right.end, length as u64),
             4 | 5 => reel.frames = frames(rng, right.frames),
             6 => reel.closed = rng.pick(&[0, 1, 1, 2, 1 << 31, u32::MAX]),
+            7 => reel.format = rng.pick(&[0, 1, 2, 256, u32::MAX]),
             _ => (reel.width, reel.height) = size(rng, right.width as usize, right.height as usize),
         }
     }

@@ -4,13 +4,14 @@ use super::compare::calls;
 use super::guarded::GuardPages;
 use super::make::case;
 use super::twin::{reading_calls, twin};
+use flic_tests::model::Format;
 use flic_tests::rng::mix;
 use flic_tests::runner::compare::Comparer;
 use flic_tests::runner::lent::{Lender, Side};
 use flic_tests::runner::wrongs::{ignoring, models, Deed, Wrong};
 use flic_tests::wrong::{
-    map_tellers, of_frames, player_tellers, tellers, trespassers, Trespass, PLAYERS, READING, REELS, REWRITING, TILES,
-    TRAILERS, WRITING,
+    delay_tellers, map_tellers, of_fli_frames, of_frames, player_tellers, tellers, trespassers, Trespass, FLI, PLAYERS,
+    READING, REELS, REWRITING, TILES, TRAILERS, WRITING,
 };
 use std::os::unix::process::ExitStatusExt;
 use std::process::{Command, Stdio};
@@ -42,15 +43,17 @@ const BESIDE: [Trespass; 12] = [
 type Guarded = (Wrong, Option<Side>);
 
 fn all() -> Vec<Guarded> {
-    let trespasses = [&READING[..], &WRITING, &REWRITING, &REELS, &TRAILERS, &PLAYERS, &TILES, &BESIDE].concat();
+    let trespasses = [&READING[..], &WRITING, &REWRITING, &REELS, &FLI, &TRAILERS, &PLAYERS, &TILES, &BESIDE].concat();
     let sides = trespasses.iter().map(|(_, _, _, deed)| match deed {
         Deed::WritesBeside(Side::Before) => Some(Side::After),
         Deed::WritesBeside(Side::After) => Some(Side::Before),
         _ => None,
     });
     let mut all: Vec<Guarded> = trespassers(&trespasses).into_iter().zip(sides).collect();
-    let others = [tellers(), player_tellers(), map_tellers(), ignoring(), models(of_frames(), &["read_frame"])];
-    all.extend(others.into_iter().flatten().map(|wrong| (wrong, None)));
+    let readings = |wrong, format| models(wrong, &["read_frame"]).into_iter().map(move |wrong| wrong.of_format(format));
+    let others = [tellers(), player_tellers(), delay_tellers(), map_tellers(), ignoring()];
+    let frames = readings(of_frames(), Format::Flc).chain(readings(of_fli_frames(), Format::Fli));
+    all.extend(others.into_iter().flatten().chain(frames).map(|wrong| (wrong, None)));
     all
 }
 
@@ -66,7 +69,7 @@ pub fn seen_wrongs(base: u64) -> Vec<Wrong> {
         calls.extend(twin(&case).iter().flat_map(reading_calls));
         for (wrong, side) in wrongs.iter_mut().filter(|(wrong, _)| wrong.seen.is_none()) {
             let comparer = Comparer { subject: &*wrong.subject, lender: &GuardPages(*side) };
-            let mut calls = calls.iter().filter(|(call, _)| wrong.functions.contains(&call.row().function));
+            let mut calls = calls.iter().filter(|(call, _)| wrong.concerns(&**call));
             if calls.any(|(call, seed)| comparer.call(&**call, *seed).is_err()) {
                 wrong.seen = Some(number + 1);
             }

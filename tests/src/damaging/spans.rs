@@ -5,7 +5,7 @@ use flic_tests::model::{
     field, kind, size_at, word_at, CHUNK_HEADER, FILE_HEADER, FRAME_HEADER, FRAME_TYPE, PREFIX_TYPE,
 };
 
-const MAGIC: u16 = 0xAF12;
+const MAGICS: [u16; 2] = [0xAF11, 0xAF12];
 const MOST_LEVELS: usize = 12;
 const SIZE_FIELD: usize = 4;
 
@@ -25,7 +25,7 @@ impl Spans {
     /// The chunks that stand in these bytes, so far as their sizes fit.
     pub fn of(bytes: &[u8]) -> Spans {
         let mut spans = Spans { all: Vec::new() };
-        let is_file = bytes.len() >= FILE_HEADER && word_at(bytes, field::MAGIC) == MAGIC;
+        let is_file = bytes.len() >= FILE_HEADER && MAGICS.contains(&word_at(bytes, field::MAGIC));
         if is_file {
             let size = size_at(bytes, field::SIZE);
             let end = if (FILE_HEADER..=bytes.len()).contains(&size) { size } else { bytes.len() };

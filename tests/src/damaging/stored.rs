@@ -1,6 +1,8 @@
 //! The stored cases: those that runs have found, and one for each answer that they should go on meeting.
 
 use super::case::Case;
+use super::met::named;
+use flic_tests::model::Format;
 use std::collections::{BTreeMap, BTreeSet};
 use std::fs;
 use std::io::Result;
@@ -48,8 +50,9 @@ pub fn load(path: &Path) -> std::result::Result<Case, String> {
     Case::of_file(&bytes).map_err(|message| format!("{}: {message}", path.display()))
 }
 
-/// An entry point and what it answered; or what a frame met on the way in which it was read.
-pub type Answer = (&'static str, u32);
+/// An entry point, the format and what it answered; or what a frame met on the way in which it was read, whose name tells
+/// the format.
+pub type Answer = (&'static str, Format, u32);
 
 /// The smallest case met for each answer.
 #[derive(Default)]
@@ -71,10 +74,10 @@ impl Collection {
     pub fn store(&self) -> Result<usize> {
         let mut met = BTreeSet::new();
         let mut stored = 0;
-        for (answer, (case, answers)) in self.smallest.iter().rev() {
+        for (answer @ (entry, format, number), (case, answers)) in self.smallest.iter().rev() {
             if !met.contains(answer) {
                 met.extend(answers.iter().copied());
-                store(case, &format!("{}-{:02}", answer.0, answer.1))?;
+                store(case, &format!("{}-{number:02}", named(entry, *format)))?;
                 stored += 1;
             }
         }

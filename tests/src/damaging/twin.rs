@@ -3,7 +3,7 @@
 use super::case::Case;
 use super::compare::calls;
 use flic_tests::damage::set_size;
-use flic_tests::model::{accepted_size, field, size_at, FILE_HEADER};
+use flic_tests::model::{accepted_size, field, size_at, Format, FILE_HEADER};
 use flic_tests::rng::{mix, Rng};
 use flic_tests::runner::calls::Call;
 use flic_tests::ways::{heavy, put_in_frame};
@@ -16,9 +16,9 @@ const READERS: [&str; 6] = ["read_frame", "rewrite_frame", "check_reel", "close_
 /// The twin of a case, if its size and its frame's header are right. Sizes and offsets of the reel around the frame grow
 /// by as much, right or not.
 pub fn twin(case: &Case) -> Option<Case> {
-    let (width, _) = accepted_size(case.width, case.height).ok()?;
+    let (width, _) = accepted_size(case.told(), case.width, case.height).ok()?;
     let rng = &mut Rng::new(mix(case.seed, TWIN_MARK));
-    let (chunk, behind) = (heavy(rng, width), rng.once_in(2));
+    let (chunk, behind) = (heavy(rng, case.told(), width), rng.once_in(2));
     let mut frame = case.frame_bytes().to_vec();
     if !put_in_frame(&mut frame, &chunk, behind) {
         return None;
@@ -29,7 +29,7 @@ pub fn twin(case: &Case) -> Option<Case> {
     twin.frame.end += more;
     if start >= FILE_HEADER {
         grow(&mut twin.bytes, field::SIZE, more);
-        if size_at(&twin.bytes, field::OFRAME2) > start {
+        if case.told() == Format::Flc && size_at(&twin.bytes, field::OFRAME2) > start {
             grow(&mut twin.bytes, field::OFRAME2, more);
         }
     }

@@ -2,7 +2,10 @@
 
 use super::file_header::Closing;
 use super::playing::Played;
-use super::{accepted_size, long_enough, number, require, size_at, Document, Model, Refusal, FILE_HEADER, MAX_FRAMES};
+use super::{
+    accepted_size, long_enough, number, require, size_at, Document, Format, Jiffies, Milliseconds, Model, Refusal,
+    FILE_HEADER, MAX_FRAMES,
+};
 use flic_boundary::{Pair, PairMut, Reel};
 
 const LARGEST_SIZE: u64 = u32::MAX as u64;
@@ -28,13 +31,27 @@ impl Building for Document {}
 pub trait Building {
     /// Writes the header of an empty reel. "Writing: 18, 2, 1, 3", of which an open can meet 2 and 3; the record of a
     /// refused one is all 0.
-    fn open_reel(&self, model: &Model, width: u64, height: u64, speed: u32, bytes: &mut [u8]) -> Outcome {
+    fn open_reel(&self, model: &Model, width: u64, height: u64, speed: Milliseconds, bytes: &mut [u8]) -> Outcome {
         Outcome::of(Reel::default(), || {
-            let (columns, rows) = accepted_size(width, height)?;
-            require(bytes.len() >= FILE_HEADER, number::SHORT_OUTPUT, 0)?;
-            bytes[..FILE_HEADER].copy_from_slice(&model.headers.opened(columns, rows, speed));
-            Ok(Reel { width, height, frames: 0, end: FILE_HEADER as u64, closed: 0 })
+            let (columns, rows) = accepted_size(Format::Flc, width, height)?;
+            self.open(Format::Flc, &model.headers.opened(columns, rows, speed), width, height, bytes)
         })
+    }
+
+    /// The same of an FLI: "jiffies over 65,535 is 14, after 2" (document 02, Req 06).
+    fn open_fli(&self, model: &Model, width: u64, height: u64, jiffies: Jiffies, bytes: &mut [u8]) -> Outcome {
+        Outcome::of(Reel::default(), || {
+            accepted_size(Format::Fli, width, height)?;
+            model.formats.fits(jiffies)?;
+            self.open(Format::Fli, &model.headers.opened_fli(jiffies), width, height, bytes)
+        })
+    }
+
+    /// Stores a header, and gives the record that goes with it.
+    fn open(&self, format: Format, header: &[u8], width: u64, height: u64, bytes: &mut [u8]) -> Result<Reel, Refusal> {
+        require(bytes.len() >= FILE_HEADER, number::SHORT_OUTPUT, 0)?;
+        bytes[..FILE_HEADER].copy_from_slice(header);
+        Ok(Reel { width, height, frames: 0, end: FILE_HEADER as u64, closed: 0, format: format.number() })
     }
 
     /// "An add is handed the showing state and writes the house frame from it." "Writing: 18, 2, 1, 3"; a record that
@@ -42,10 +59,11 @@ pub trait Building {
     fn add_frame(&self, model: &Model, reel: Reel, bytes: &mut [u8], shown: Pair, next: Pair) -> Outcome {
         Outcome::of(reel, || {
             let (pictures, palettes) = ([shown.picture, next.picture], [shown.palette, next.palette]);
-            let (width, height) = self.checked(reel, self.may_add(reel), &pictures, &palettes)?;
+            let format = model.formats.told(reel.format);
+            let (width, height) = self.checked(format, reel, self.may_add(reel), &pictures, &palettes)?;
             self.record_fits(reel, bytes.len() as u64)?;
-            let end = self.append(reel, bytes, &model.house_frame(width, height, shown, next))?;
-            Ok(Reel { frames: reel.frames + 1, end, ..reel })
+            let end = self.append(reel, bytes, &model.house_frame(format, width, height, shown, next))?;
+            Ok(Reel { frames: reel.frames + 1, end, format: format.number(), ..reel })
         })
     }
 
@@ -62,15 +80,16 @@ pub trait Building {
         Outcome::of(reel, || {
             let pictures = [&*first.picture, &*second.picture];
             let palettes = [&*first.palette, &*second.palette];
-            let (width, height) = self.checked(reel, self.may_close(reel), &pictures, &palettes)?;
-            let mut played = Played::from_blank(width, height);
+            let format = model.formats.told(reel.format);
+            let (width, height) = self.checked(format, reel, self.may_close(reel), &pictures, &palettes)?;
+            let mut played = Played::from_blank(format, width, height);
             let second_frame = self.play_open_reel(model, reel, bytes, &mut played);
             model.playing.leave(&played, &mut first, &mut second);
             let second_frame = second_frame? as u32;
             let end = self.append(reel, bytes, &self.ring(model, &played))?;
             let closing = Closing { size: end as u32, frames: reel.frames as u16, second_frame };
-            model.headers.close(bytes, &closing);
-            Ok(Reel { end, closed: 1, ..reel })
+            model.headers.close(bytes, format, &closing);
+            Ok(Reel { end, closed: 1, format: format.number(), ..reel })
         })
     }
 
@@ -91,13 +110,14 @@ pub trait Building {
     /// The checks 18, 2 and 1 of an add or a close; gives width and height.
     fn checked(
         &self,
+        format: Format,
         reel: Reel,
         may_go_on: bool,
         pictures: &[&[u8]],
         palettes: &[&[u8]],
     ) -> Result<(usize, usize), Refusal> {
         require(may_go_on, number::CLOSED_OR_FULL, 0)?;
-        let (width, height) = accepted_size(reel.width, reel.height)?;
+        let (width, height) = accepted_size(format, reel.width, reel.height)?;
         long_enough(width * height, pictures, palettes)?;
         Ok((width, height))
     }
@@ -152,7 +172,8 @@ pub trait Building {
 
     /// "The ring is written from the state in which the close's own playing ends", and leads back to frame 1.
     fn ring(&self, model: &Model, played: &Played) -> Vec<u8> {
-        model.house_frame(played.width, played.height, played.last.shown(), played.first.shown())
+        let Played { format, width, height, .. } = *played;
+        model.house_frame(format, width, height, played.last.shown(), played.first.shown())
     }
 }
 
@@ -160,7 +181,7 @@ pub trait Building {
 mod tests {
     use super::*;
     use crate::model::{MODEL, PALETTE_BYTES};
-    use crate::reels::examples::{blank_reel, zero_until_close, SPEED};
+    use crate::reels::examples::{blank_fli, blank_reel, zero_until_close, JIFFIES, SPEED};
 
     const FILL: u8 = 0x77;
     const BLANK: [u8; PALETTE_BYTES] = [0; PALETTE_BYTES];
@@ -203,7 +224,7 @@ mod tests {
     fn the_one_by_one_blank_reel_of_document_01() {
         let mut bytes = [FILL; 161];
         let open = MODEL.open_reel(1, 1, SPEED, &mut bytes);
-        assert_eq!(open.reel, Reel { width: 1, height: 1, frames: 0, end: 128, closed: 0 });
+        assert_eq!(open.reel, Reel { width: 1, height: 1, frames: 0, end: 128, closed: 0, format: 0 });
         let wanted = blank_reel();
         assert!((0..128).all(|at| bytes[at] == if zero_until_close(at) { 0 } else { wanted[at] }));
         assert_eq!(bytes[128..], [FILL; 33]);
@@ -257,6 +278,44 @@ mod tests {
     }
 
     #[test]
+    fn the_blank_fli() {
+        let wanted = blank_fli();
+        let mut bytes = [FILL; 161];
+        let open = MODEL.open_fli(320, 200, JIFFIES, &mut bytes);
+        assert_eq!(open.reel, Reel { width: 320, height: 200, frames: 0, end: 128, closed: 0, format: 1 });
+        let of_close = |at: usize| matches!(at, 0..=3 | 6 | 7);
+        assert!((0..128).all(|at| bytes[at] == if of_close(at) { 0 } else { wanted[at] }));
+        assert_eq!(bytes[128..], [FILL; 33]);
+        let added = still(&mut bytes, open.reel, 64_000);
+        let Closed { outcome, first, second } = closed(Reel { format: 2, ..added }, &mut bytes);
+        assert_eq!(outcome, Outcome { answer: Ok(()), reel: Reel { end: 160, closed: 1, ..added } });
+        assert_eq!((first[64_000], second[64_000]), (FILL, FILL));
+        assert_eq!(bytes[..], [&wanted[..], &[FILL]].concat());
+    }
+
+    #[test]
+    fn opens_of_an_fli_are_refused_in_order() {
+        let mut bytes = [FILL; 127];
+        for (width, height, jiffies, number) in [(320, 199, 65_536, 2), (320, 200, 65_536, 14), (320, 200, 65_535, 3)] {
+            let refused = MODEL.open_fli(width, height, jiffies, &mut bytes);
+            assert_eq!((refusal(refused), refused.reel), ((number, 0), Reel::default()));
+        }
+        assert_eq!(bytes, [FILL; 127]);
+    }
+
+    #[test]
+    fn a_frame_of_an_fli_is_closed_as_one() {
+        let mut bytes = vec![FILL; 400];
+        let open = MODEL.open_fli(320, 200, 0, &mut bytes).reel;
+        bytes[128..152]
+            .copy_from_slice(&[24, 0, 0, 0, 0xFA, 0xF1, 1, 0, 0, 0, 0, 0, 0, 0, 0, 0, 8, 0, 0, 0, 7, 0, 0, 0]);
+        let reel = Reel { frames: 1, end: 152, ..open };
+        let Closed { outcome, first, .. } = closed(reel, &mut bytes);
+        assert_eq!((refusal(outcome), first[0]), ((20, 144), 0));
+        assert_eq!(closed(Reel { format: 0, ..reel }, &mut bytes).outcome.answer, Ok(()));
+    }
+
+    #[test]
     fn adds_are_refused_in_order() {
         let mut bytes = [FILL; 150];
         let mut refused = |reel: Reel, picture: &[u8]| {
@@ -264,7 +323,7 @@ mod tests {
             assert_eq!(outcome.reel, reel);
             refusal(outcome)
         };
-        let reel = Reel { width: 0, height: 1, frames: 4000, end: 151, closed: 0 };
+        let reel = Reel { width: 0, height: 1, frames: 4000, end: 151, closed: 0, format: 0 };
         assert_eq!(refused(reel, &[]), (18, 0));
         assert_eq!(refused(Reel { frames: 0, closed: 2, ..reel }, &[]), (18, 0));
         let reel = Reel { frames: 3999, ..reel };
@@ -313,7 +372,7 @@ mod tests {
     #[test]
     fn a_close_sets_no_other_header_byte() {
         let mut bytes = [FILL; 200];
-        let reel = Reel { width: 1, height: 1, frames: 1, end: 144, closed: 0 };
+        let reel = Reel { width: 1, height: 1, frames: 1, end: 144, closed: 0, format: 0 };
         bytes[128..144].copy_from_slice(&[16, 0, 0, 0, 0xFA, 0xF1, 0, 0, 1, 2, 3, 4, 5, 6, 7, 8]);
         assert_eq!(closed(reel, &mut bytes).outcome.answer, Ok(()));
         assert!((0..FILE_HEADER).all(|at| (bytes[at] == FILL) != zero_until_close(at)));

@@ -2,17 +2,19 @@
 
 use super::playing::Played;
 use super::top_level::is_frame;
-use super::{number, Document, FileHeader, Model, Refusal};
+use super::{number, Document, FileHeader, Format, Model, Refusal};
 use flic_boundary::PairMut;
 
 impl Checking for Document {}
 
 pub trait Checking {
-    /// "Reel: 4, 5, size field 6 then 4, 2, 14, 1, then chunks from the front".
+    /// "Reel: 4, 5, size field 6 then 4, 2, 14, 1, then chunks from the front". It goes "by the magic, 5 there meaning
+    /// neither" (document 02, Req 06).
     fn check_reel(&self, model: &Model, bytes: &[u8], first: PairMut, second: PairMut) -> Result<(), Refusal> {
         let pictures = [&*first.picture, &*second.picture];
-        let header = model.headers.accepted(bytes, &pictures, &[&*first.palette, &*second.palette])?;
-        let played = Played::from_blank(header.width, header.height);
+        let palettes = [&*first.palette, &*second.palette];
+        let header = model.headers.accepted(model, bytes, &Format::BOTH, &pictures, &palettes)?;
+        let played = Played::from_blank(header.format, header.width, header.height);
         self.play_and_leave(model, bytes, &header, played, first, second)
     }
 
@@ -186,7 +188,8 @@ mod tests {
         assert_eq!(checked(&with(&bytes, 0, 127)), (Err((6, 0)), AS_FOUND));
         assert_eq!(checked(&bytes[..bytes.len() - 1]), (Err((4, 0)), AS_FOUND));
         bytes[0] = 127;
-        assert_eq!(checked(&with(&bytes, 4, 0x11)), (Err((5, 0)), AS_FOUND));
+        assert_eq!(checked(&with(&bytes, 4, 0x13)), (Err((5, 0)), AS_FOUND));
+        assert_eq!(checked(&with(&bytes, 4, 0x11)), (Err((6, 0)), AS_FOUND));
         let wide = with(&reel(1, &[]), 8, 4);
         assert_eq!(checked(&wide), (Err((1, 0)), AS_FOUND));
     }

@@ -1,8 +1,8 @@
 //! Reading one frame: document 01's "Frames, chunks and rows".
 
 use super::{
-    accepted_size, kind, long_enough, number, require, size_at, word_at, Document, Refusal, CHUNK_HEADER, FRAME_HEADER,
-    FRAME_TYPE, PALETTE_BYTES,
+    accepted_size, kind, long_enough, number, require, size_at, word_at, Document, Format, Refusal, CHUNK_HEADER,
+    FRAME_HEADER, FRAME_TYPE, PALETTE_BYTES,
 };
 use flic_boundary::PairMut;
 
@@ -19,27 +19,27 @@ impl Frames for Document {}
 
 pub trait Frames {
     /// "Single frame: 2, 1, then its bytes from the front." A refusal leaves all lent memory as found.
-    fn read_frame(&self, bytes: &[u8], width: u64, height: u64, shown: PairMut) -> Result<(), Refusal> {
-        let mut screen = self.checked(width, height, &shown)?;
-        self.play(bytes, &mut screen)?;
+    fn read_frame(&self, bytes: &[u8], format: Format, width: u64, height: u64, shown: PairMut) -> Result<(), Refusal> {
+        let mut screen = self.checked(format, width, height, &shown)?;
+        self.play(bytes, format, &mut screen)?;
         shown.picture.copy_from_slice(&screen.picture);
         shown.palette.copy_from_slice(&screen.palette);
         Ok(())
     }
 
     /// The checks 2 and 1, and copies of what was lent.
-    fn checked(&self, width: u64, height: u64, shown: &PairMut) -> Result<Screen, Refusal> {
-        let (width, height) = accepted_size(width, height)?;
+    fn checked(&self, format: Format, width: u64, height: u64, shown: &PairMut) -> Result<Screen, Refusal> {
+        let (width, height) = accepted_size(format, width, height)?;
         long_enough(width * height, &[shown.picture], &[shown.palette])?;
         Ok(Screen { width, height, picture: shown.picture.to_vec(), palette: shown.palette.to_vec() })
     }
 
     /// "Then as many sub-chunks as the count says"; "sub-chunks act in file order".
-    fn play(&self, bytes: &[u8], screen: &mut Screen) -> Result<(), Refusal> {
+    fn play(&self, bytes: &[u8], format: Format, screen: &mut Screen) -> Result<(), Refusal> {
         let header = self.frame_header(bytes)?;
         let mut place = FRAME_HEADER;
         for _ in 0..header.count {
-            let chunk = self.sub_chunk(&bytes[..header.end], place)?;
+            let chunk = self.sub_chunk(&bytes[..header.end], format, place)?;
             let data = &mut Data { rest: &bytes[place + CHUNK_HEADER..place + chunk.size] };
             self.judged(chunk.kind, data, screen).map_err(|number| self.fault(number, place))?;
             place += chunk.size;
@@ -58,14 +58,22 @@ pub trait Frames {
         Ok(FrameHeader { end, count: word_at(bytes, 6) })
     }
 
-    /// The sub-chunk that begins at `place`, within the bytes that enclose it.
-    fn sub_chunk(&self, enclosing: &[u8], place: usize) -> Result<SubChunk, Refusal> {
+    /// The sub-chunk that begins at `place`, within the bytes that enclose it. "kind 7 or 18 met is 20, as the sub-chunk's
+    /// header is accepted" (document 02, Req 06).
+    fn sub_chunk(&self, enclosing: &[u8], format: Format, place: usize) -> Result<SubChunk, Refusal> {
         let rest = &enclosing[place..];
         require(rest.len() >= CHUNK_HEADER, number::CUT_SHORT, place)?;
         let size = size_at(rest, 0);
         require(size >= CHUNK_HEADER, number::SIZE_TOO_SMALL, place)?;
         require(size <= rest.len(), number::CUT_SHORT, place)?;
-        Ok(SubChunk { kind: word_at(rest, 4), size })
+        let kind = word_at(rest, 4);
+        require(self.may_hold(format, kind), number::NOT_IN_FLI, place)?;
+        Ok(SubChunk { kind, size })
+    }
+
+    /// Of an FLI: "no kinds 7 or 18" (document 02, Req 06).
+    fn may_hold(&self, format: Format, kind: u16) -> bool {
+        format == Format::Flc || ![kind::SS2, kind::PSTAMP].contains(&kind)
     }
 
     /// A body's fault is placed at "the offset .. of the chunk header at fault".
@@ -443,7 +451,7 @@ mod tests {
         let mut picture = vec![FILL; width * height];
         let mut palette = vec![FILL; PALETTE_BYTES];
         let shown = PairMut { picture: &mut picture, palette: &mut palette };
-        let answer = Document.read_frame(bytes, width as u64, height as u64, shown);
+        let answer = Document.read_frame(bytes, Format::Flc, width as u64, height as u64, shown);
         Read { answer, picture, palette }
     }
 
@@ -658,7 +666,7 @@ mod tests {
     fn size_before_slices_before_bytes() {
         let answer = |width, height, picture: usize, palette: usize| {
             let shown = PairMut { picture: &mut vec![0; picture], palette: &mut vec![0; palette] };
-            Document.read_frame(&[], width, height, shown).map_err(|refusal| refusal.number)
+            Document.read_frame(&[], Format::Flc, width, height, shown).map_err(|refusal| refusal.number)
         };
         assert_eq!(answer(0, 1, 0, 0), Err(2));
         assert_eq!(answer(321, 1, 0, 0), Err(2));
@@ -667,5 +675,53 @@ mod tests {
         assert_eq!(answer(320, 200, 63_999, 768), Err(1));
         assert_eq!(answer(320, 200, 64_000, 767), Err(1));
         assert_eq!(answer(320, 200, 64_000, 768), Err(4));
+    }
+
+    /// The answer to a frame of an FLI.
+    fn of_fli(bytes: &[u8]) -> Result<(), (u32, u64)> {
+        let (mut picture, mut palette) = (vec![FILL; 64_000], vec![FILL; PALETTE_BYTES]);
+        let shown = PairMut { picture: &mut picture, palette: &mut palette };
+        let answer = Document.read_frame(bytes, Format::Fli, 320, 200, shown);
+        assert!(answer.is_ok() || picture.iter().chain(&palette).all(|byte| *byte == FILL));
+        answer.map_err(|refusal| (refusal.number, refusal.place))
+    }
+
+    #[test]
+    fn an_fli_holds_no_kind_7_or_18() {
+        let of = |kind, body: &[u8]| Chunk { kind, body: body.to_vec() };
+        let black = || of(kind::BLACK, &[]);
+        for kind in [kind::SS2, kind::PSTAMP] {
+            for body in [&[0, 0][..], &[], &[1, 0, 0, 0x40]] {
+                assert_eq!(of_fli(&frame_of(&[of(kind, body)])), Err((20, 16)), "kind {kind}, {body:?}");
+                assert_eq!(of_fli(&frame_of(&[black(), of(kind, body)])), Err((20, 22)));
+            }
+            assert_eq!(of_fli(&frame_of(&[of(kind::BLACK, &[9, 9]), of(kind, &[0, 0])])), Err((19, 16)));
+            assert_eq!(of_fli(&frame_of(&[of(kind::COPY, &[]), of(kind, &[0, 0])])), Err((7, 16)));
+            assert_eq!(of_fli(&frame_of(&[of(kind, &[0, 0]), of(kind::COPY, &[])])), Err((20, 16)));
+            for (size, number) in [(5, 6), (9, 4), (6, 20), (8, 20)] {
+                let mut bytes = frame_of(&[of(kind, &[0, 0])]);
+                bytes[16] = size;
+                assert_eq!(of_fli(&bytes), Err((number, 16)), "kind {kind}, size {size}");
+            }
+            let mut cut = frame_of(&[black(), of(kind, &[])]);
+            cut[0] -= 1;
+            assert_eq!(of_fli(&cut), Err((4, 22)));
+        }
+        for kind in [kind::COLOR256, kind::COLOR, kind::LC] {
+            assert_eq!(of_fli(&frame_of(&[of(kind, &[0, 0, 0, 0][..if kind == kind::LC { 4 } else { 2 }])])), Ok(()));
+        }
+        assert_eq!(of_fli(&frame_of(&[black(), of(0x0107, &[]), of(19, &[1, 2, 3])])), Ok(()));
+    }
+
+    #[test]
+    fn an_fli_is_320_by_200() {
+        let answer = |width, height, picture: usize| {
+            let shown = PairMut { picture: &mut vec![0; picture], palette: &mut [0; PALETTE_BYTES] };
+            Document.read_frame(&[], Format::Fli, width, height, shown).map_err(|refusal| refusal.number)
+        };
+        for (width, height) in [(1, 1), (319, 200), (320, 199), (200, 320), (320, 201), (321, 200), (0, 0)] {
+            assert_eq!(answer(width, height, 0), Err(2), "{width} by {height}");
+        }
+        assert_eq!((answer(320, 200, 63_999), answer(320, 200, 64_000)), (Err(1), Err(4)));
     }
 }

@@ -1,14 +1,18 @@
 //! Writing one frame: document 01's "House form of a frame", and the rewriting of a frame in it.
 
 use super::{
-    accepted_size, kind, long_enough, number, require, Document, Model, Refusal, CHUNK_HEADER, FRAME_HEADER,
+    accepted_size, kind, long_enough, number, require, Document, Format, Model, Refusal, CHUNK_HEADER, FRAME_HEADER,
     FRAME_TYPE, PALETTE_BYTES,
 };
 use flic_boundary::{Pair, PairMut};
+use std::collections::HashMap;
 
 const MOST_REPEATED: usize = 127;
 const MOST_COPIED: usize = 128;
-const MOST_SKIPPED: usize = 254;
+
+/// How many pixels a packet of a delta counts as one: of kind 12 a pixel, of kind 7 a pair.
+const PIXEL: usize = 1;
+const PAIR: usize = 2;
 
 /// The bytes of a row's packets, the ignored byte not counted, and the turns that the search for them took.
 #[derive(Clone, Copy, Debug, PartialEq, Eq)]
@@ -23,6 +27,7 @@ pub trait House {
     /// "Writing: 18, 2, 1, 3." Gives the frame's length.
     fn write_frame(
         &self,
+        format: Format,
         width: u64,
         height: u64,
         previous: Pair,
@@ -30,8 +35,8 @@ pub trait House {
         out: &mut [u8],
     ) -> Result<usize, Refusal> {
         let pictures = [previous.picture, next.picture];
-        let (columns, rows) = self.checked(width, height, &pictures, &[previous.palette, next.palette])?;
-        self.store(&self.frame(columns, rows, previous, next), out)
+        let (columns, rows) = self.checked(format, width, height, &pictures, &[previous.palette, next.palette])?;
+        self.store(&self.frame(format, columns, rows, previous, next), out)
     }
 
     /// "a rewrite gives the frame's own refusals before 3".
@@ -40,6 +45,7 @@ pub trait House {
         &self,
         model: &Model,
         bytes: &[u8],
+        format: Format,
         width: u64,
         height: u64,
         previous: Pair,
@@ -47,14 +53,14 @@ pub trait House {
         out: &mut [u8],
     ) -> Result<usize, Refusal> {
         let pictures = [previous.picture, &*work.picture];
-        let (columns, rows) = self.checked(width, height, &pictures, &[previous.palette, &*work.palette])?;
+        let (columns, rows) = self.checked(format, width, height, &pictures, &[previous.palette, &*work.palette])?;
         let pixels = columns * rows;
         let (mut picture, mut palette) =
             (previous.picture[..pixels].to_vec(), previous.palette[..PALETTE_BYTES].to_vec());
         let shown = PairMut { picture: &mut picture, palette: &mut palette };
-        let answer = model.read_frame(bytes, width, height, shown).and_then(|()| {
+        let answer = model.frames.read_frame(bytes, format, width, height, shown).and_then(|()| {
             let next = Pair { picture: &picture, palette: &palette };
-            self.store(&self.frame(columns, rows, previous, next), out)
+            self.store(&self.frame(format, columns, rows, previous, next), out)
         });
         if self.sets_pair(&answer) {
             work.picture[..pixels].copy_from_slice(&picture);
@@ -71,12 +77,13 @@ pub trait House {
     /// The checks 2 and 1.
     fn checked(
         &self,
+        format: Format,
         width: u64,
         height: u64,
         pictures: &[&[u8]],
         palettes: &[&[u8]],
     ) -> Result<(usize, usize), Refusal> {
-        let (columns, rows) = accepted_size(width, height)?;
+        let (columns, rows) = accepted_size(format, width, height)?;
         long_enough(columns * rows, pictures, palettes)?;
         Ok((columns, rows))
     }
@@ -89,10 +96,10 @@ pub trait House {
     }
 
     /// "Written from a previous and a next state; the 8 reserved bytes are 0".
-    fn frame(&self, width: usize, height: usize, previous: Pair, next: Pair) -> Vec<u8> {
+    fn frame(&self, format: Format, width: usize, height: usize, previous: Pair, next: Pair) -> Vec<u8> {
         let pixels = width * height;
         let colour = self.colour_chunk(&previous.palette[..PALETTE_BYTES], &next.palette[..PALETTE_BYTES]);
-        let picture = self.picture_chunk(width, &previous.picture[..pixels], &next.picture[..pixels]);
+        let picture = self.picture_chunk(format, width, &previous.picture[..pixels], &next.picture[..pixels]);
         let chunks = self.in_order(colour, picture);
         let mut bytes = Vec::new();
         push_size(&mut bytes, FRAME_HEADER + chunks.iter().map(Vec::len).sum::<usize>());
@@ -132,13 +139,21 @@ pub trait House {
         stretches(changed)
     }
 
-    fn picture_chunk(&self, width: usize, previous: &[u8], next: &[u8]) -> Option<Vec<u8>> {
+    fn picture_chunk(&self, format: Format, width: usize, previous: &[u8], next: &[u8]) -> Option<Vec<u8>> {
         if previous == next {
             return None;
         }
         let full = self.full_chunk(width, next);
-        let delta = sub_chunk(kind::SS2, &self.ss2_body(width, previous, next));
+        let delta = self.delta_chunk(format, width, previous, next);
         Some(if self.uses_delta(delta.len(), full.len()) { delta } else { full })
+    }
+
+    /// "Delta: kind 7"; of an FLI "Their delta is kind 12" (document 02, Req 06).
+    fn delta_chunk(&self, format: Format, width: usize, previous: &[u8], next: &[u8]) -> Vec<u8> {
+        match format {
+            Format::Flc => sub_chunk(kind::SS2, &self.ss2_body(width, previous, next)),
+            Format::Fli => sub_chunk(kind::LC, &self.lc_body(width, previous, next)),
+        }
     }
 
     /// "The delta is used when strictly shorter than the full chunk."
@@ -159,11 +174,12 @@ pub trait House {
         black.into_iter().chain([brun, copy]).collect()
     }
 
-    /// "BRUN with each row's packets of least total bytes".
+    /// "BRUN with each row's packets of least total bytes". Rows that are equal have the same packets, and are searched once.
     fn brun_body(&self, width: usize, next: &[u8]) -> Vec<u8> {
         let mut body = Vec::new();
+        let mut searched = HashMap::new();
         for row in next.chunks(width) {
-            let packets = self.brun_row(row);
+            let packets: &Vec<BrunPacket> = searched.entry(row).or_insert_with(|| self.brun_row(row));
             body.push(self.ignored_byte(packets.len()));
             body.extend(packets.iter().flat_map(|packet| packet.stored(row)));
         }
@@ -222,7 +238,7 @@ pub trait House {
     /// Document 02, Req 03: "find it in at most 16 turns for each pixel of the row .. the search gives its count of turns
     /// back". A row that no picture has is refused as its size is.
     fn search_row(&self, row: &[u8]) -> Result<Searched, Refusal> {
-        let (pixels, _) = accepted_size(row.len() as u64, 1)?;
+        let (pixels, _) = accepted_size(Format::Flc, row.len() as u64, 1)?;
         let bytes = self.brun_row(row).iter().map(|packet| packet.stored(row).len()).sum();
         Ok(Searched { bytes, turns: self.turns(pixels) })
     }
@@ -254,7 +270,7 @@ pub trait House {
 
     fn ss2_line(&self, old: &[u8], new: &[u8]) -> Vec<u8> {
         let mut line = self.last_pixel_word(old, new);
-        let packets = self.ss2_packets(old, new);
+        let packets = self.delta_packets(PAIR, old, new);
         push_word(&mut line, packets.len());
         line.extend(packets.concat());
         line
@@ -269,51 +285,79 @@ pub trait House {
         word
     }
 
-    /// "The row is seen as pairs from column 0".
-    fn ss2_packets(&self, old: &[u8], new: &[u8]) -> Vec<Vec<u8>> {
-        let pairs: Vec<&[u8]> = new.chunks_exact(2).collect();
-        let changed: Vec<bool> = old.chunks_exact(2).zip(&pairs).map(|(was, is)| self.pair_changed(was, is)).collect();
+    /// An FLI's delta: "kind 12 in Req 04's form: rows from the first changed to the last, a row without change having count
+    /// 0" (document 02, Req 06).
+    fn lc_body(&self, width: usize, previous: &[u8], next: &[u8]) -> Vec<u8> {
+        let rows: Vec<(&[u8], &[u8])> = previous.chunks(width).zip(next.chunks(width)).collect();
+        let (first, after) = self.lc_rows(&rows);
+        let mut body = Vec::new();
+        push_word(&mut body, first);
+        push_word(&mut body, after - first);
+        for (old, new) in &rows[first..after] {
+            let packets = self.delta_packets(PIXEL, old, new);
+            body.push(as_byte(packets.len()));
+            body.extend(packets.concat());
+        }
+        body
+    }
+
+    /// The first changed row, and the row after the last.
+    fn lc_rows(&self, rows: &[(&[u8], &[u8])]) -> (usize, usize) {
+        let changed = |(old, new): &(&[u8], &[u8])| old != new;
+        let (first, last) = (rows.iter().position(changed), rows.iter().rposition(changed));
+        first.zip(last).map_or((0, 0), |(first, last)| (first, last + 1))
+    }
+
+    /// The packets of a row: of kind 7 "The row is seen as pairs from column 0", of kind 12 each pixel is a unit.
+    fn delta_packets(&self, unit: usize, old: &[u8], new: &[u8]) -> Vec<Vec<u8>> {
+        let units: Vec<&[u8]> = new.chunks_exact(unit).collect();
+        let changed: Vec<bool> =
+            old.chunks_exact(unit).zip(&units).map(|(was, is)| self.unit_changed(was, is)).collect();
         let mut packets = Vec::new();
         let mut shown = 0;
         for (first, after) in stretches(&changed) {
-            let mut gap = 2 * (first - shown);
-            while gap > self.most_skipped() {
-                packets.push(vec![as_byte(self.most_skipped()), 0]);
-                gap -= self.most_skipped();
+            let mut gap = unit * (first - shown);
+            while gap > self.most_skipped(unit) {
+                packets.push(vec![as_byte(self.most_skipped(unit)), 0]);
+                gap -= self.most_skipped(unit);
             }
-            packets.extend(self.ss2_stretch(gap, &pairs[first..after]));
+            packets.extend(self.delta_stretch(gap, &units[first..after]));
             shown = after;
         }
         packets
     }
 
     /// "a pair is changed if either pixel is".
-    fn pair_changed(&self, was: &[u8], is: &[u8]) -> bool {
+    fn unit_changed(&self, was: &[u8], is: &[u8]) -> bool {
         was != is
     }
 
-    /// "A gap over 254 pixels is first shortened by packets of skip 254 and type 0."
-    fn most_skipped(&self) -> usize {
-        MOST_SKIPPED
+    /// "A gap over 254 pixels is first shortened by packets of skip 254 and type 0"; of kind 12 "gaps over 255 use skip 255,
+    /// type 0".
+    fn most_skipped(&self, unit: usize) -> usize {
+        match unit {
+            PAIR => 254,
+            _ => 255,
+        }
     }
 
-    /// The packets of one stretch of changed pairs, the first of them after `gap` pixels: "otherwise pairs are copied
-    /// up to such a repeat, the stretch's end, or 127".
-    fn ss2_stretch(&self, gap: usize, pairs: &[&[u8]]) -> Vec<Vec<u8>> {
+    /// The packets of one stretch of changed units, the first of them after `gap` pixels: "otherwise pairs are copied up to
+    /// such a repeat, the stretch's end, or 127"; the same of kind 12's pixels.
+    fn delta_stretch(&self, gap: usize, units: &[&[u8]]) -> Vec<Vec<u8>> {
         let mut packets = Vec::new();
         let (mut at, mut skip) = (0, gap);
-        while at < pairs.len() {
+        while at < units.len() {
             let mut packet = vec![as_byte(skip)];
-            let repeated = self.repeated(pairs, at);
+            let repeated = self.repeated(units, at);
             if repeated > 0 {
                 packet.push(as_negative(repeated));
-                packet.extend(pairs[at]);
+                packet.extend(units[at]);
                 at += repeated;
             } else {
-                let up_to_repeat = (at..pairs.len()).take_while(|i| self.repeated(pairs, *i) == 0).count();
-                let copied = up_to_repeat.min(self.most_pairs());
+                let up_to_repeat = (at..units.len()).take_while(|i| self.repeated(units, *i) == 0).count();
+                let copied = up_to_repeat.min(self.most_units());
                 packet.push(as_byte(copied));
-                packet.extend(pairs[at..at + copied].concat());
+                packet.extend(units[at..at + copied].concat());
                 at += copied;
             }
             packets.push(packet);
@@ -322,19 +366,26 @@ pub trait House {
         packets
     }
 
-    /// How many pairs from `at` on are a repeat, if any: "two or more equal next pairs in a row are one repeat, as long
-    /// as can be, at most 127".
-    fn repeated(&self, pairs: &[&[u8]], at: usize) -> usize {
-        let equal = pairs[at..].iter().take(self.most_pairs()).take_while(|pair| **pair == pairs[at]).count();
-        if equal >= 2 {
+    /// How many units from `at` on are a repeat, if any: "one repeat, as long as can be, at most 127".
+    fn repeated(&self, units: &[&[u8]], at: usize) -> usize {
+        let equal = units[at..].iter().take(self.most_units()).take_while(|unit| **unit == units[at]).count();
+        if equal >= self.least_repeat(units[at].len()) {
             equal
         } else {
             0
         }
     }
 
+    /// "two or more equal next pairs in a row are one repeat"; of kind 12 "three or more equal ones are repeated".
+    fn least_repeat(&self, unit: usize) -> usize {
+        match unit {
+            PAIR => 2,
+            _ => 3,
+        }
+    }
+
     /// "at most 127".
-    fn most_pairs(&self) -> usize {
+    fn most_units(&self) -> usize {
         127
     }
 }
@@ -455,7 +506,9 @@ mod tests {
         let from = Pair { picture: previous, palette: old };
         let to = Pair { picture: next, palette: new };
         let height = previous.len() / width;
-        let length = Document.write_frame(width as u64, height as u64, from, to, &mut out).expect("the room is large");
+        let length = Document
+            .write_frame(Format::Flc, width as u64, height as u64, from, to, &mut out)
+            .expect("the room is large");
         assert!(out[length..].iter().all(|byte| *byte == 0xEE));
         out.truncate(length);
         out
@@ -533,6 +586,86 @@ mod tests {
         assert_eq!(ss2_body(&next, &[0, 0, 1, 9, 0, 0, 0, 0, 3, 4]), [1, 0, 0xFF, 0xFF, 1, 0, 0, 1, 1, 9]);
     }
 
+    /// The packets of a row of kind 12 that is 0 before, with the count in front of them.
+    fn lc_row(next: &[u8]) -> Vec<u8> {
+        let body = Document.lc_body(next.len(), &vec![0; next.len()], next);
+        assert_eq!(body[..4], [0, 0, 1, 0]);
+        body[4..].to_vec()
+    }
+
+    /// So many zeros, and then these pixels.
+    fn after(gap: usize, pixels: &[u8]) -> Vec<u8> {
+        [&vec![0; gap], pixels].concat()
+    }
+
+    #[test]
+    fn gaps_over_255_pixels_are_shortened_in_kind_12() {
+        assert_eq!(lc_row(&after(254, &[9])), [1, 254, 1, 9]);
+        assert_eq!(lc_row(&after(255, &[9])), [1, 255, 1, 9]);
+        assert_eq!(lc_row(&after(256, &[9])), [2, 255, 0, 1, 1, 9]);
+        assert_eq!(lc_row(&after(300, &[9])), [2, 255, 0, 45, 1, 9]);
+        assert_eq!(lc_row(&after(1, &[8, 0, 9])), [2, 1, 1, 8, 1, 1, 9]);
+        assert_eq!(lc_row(&[&[8][..], &[0; 256], &[9]].concat()), [3, 0, 1, 8, 255, 0, 1, 1, 9]);
+    }
+
+    #[test]
+    fn three_equal_pixels_are_repeated_in_kind_12() {
+        assert_eq!(lc_row(&[5; 2]), [1, 0, 2, 5, 5]);
+        assert_eq!(lc_row(&[5; 3]), [1, 0, 0xFD, 5]);
+        assert_eq!(lc_row(&[5; 127]), [1, 0, 0x81, 5]);
+        assert_eq!(lc_row(&[5; 128]), [2, 0, 0x81, 5, 0, 1, 5]);
+        assert_eq!(lc_row(&[5; 129]), [2, 0, 0x81, 5, 0, 2, 5, 5]);
+        assert_eq!(lc_row(&[5; 130]), [2, 0, 0x81, 5, 0, 0xFD, 5]);
+        assert_eq!(lc_row(&[1, 5, 5, 5, 2, 2]), [3, 0, 1, 1, 0, 0xFD, 5, 0, 2, 2, 2]);
+        assert_eq!(lc_row(&[&[5; 128][..], &[6, 7, 7, 7]].concat()), [3, 0, 0x81, 5, 0, 2, 5, 6, 0, 0xFD, 7]);
+        let slope: Vec<u8> = (1..=128).collect();
+        assert_eq!(lc_row(&slope), [&[2, 0, 127], &slope[..127], &[0, 1, 128]].concat());
+    }
+
+    #[test]
+    fn equal_pixels_that_stay_are_no_part_of_a_repeat() {
+        let body = Document.lc_body(5, &[5, 0, 0, 5, 5], &[5, 5, 5, 5, 5]);
+        assert_eq!(body, [0, 0, 1, 0, 1, 1, 2, 5, 5]);
+    }
+
+    #[test]
+    fn rows_from_the_first_changed_to_the_last() {
+        let next = [0, 0, 1, 2, 0, 0, 0, 0, 3, 4, 0, 0];
+        let expected = [1, 0, 4, 0, 1, 0, 2, 1, 2, 0, 0, 1, 0, 2, 3, 4];
+        assert_eq!(Document.lc_body(2, &[0; 12], &next), expected);
+        assert_eq!(Document.lc_body(2, &[0; 12], &[0, 0, 0, 0, 0, 0, 0, 0, 0, 0, 0, 1]), [5, 0, 1, 0, 1, 1, 1, 1]);
+    }
+
+    #[test]
+    fn a_row_of_most_packets_fits_its_count() {
+        for width in [319, 320] {
+            let every_second: Vec<u8> = (0..width).map(|x| (x % 2 == 0).into()).collect();
+            assert_eq!(lc_row(&every_second)[0], 160);
+        }
+    }
+
+    #[test]
+    fn an_fli_takes_kind_12_where_it_is_strictly_shorter() {
+        let palette = GREY.to_vec();
+        let chunk_of = |previous: &[u8], next: &[u8]| {
+            let pair = |picture| Pair { picture, palette: &palette };
+            MODEL.house_frame(Format::Fli, 320, 200, pair(previous), pair(next))[16..].to_vec()
+        };
+        let (flat, noise) = (vec![7; 64_000], (0..64_000).map(|at| (at % 251) as u8).collect::<Vec<u8>>());
+        let mut one = noise.clone();
+        one[320 * 199 + 319] = 255;
+        assert_eq!(chunk_of(&noise, &one), [16, 0, 0, 0, 12, 0, 199, 0, 1, 0, 2, 255, 0, 64, 1, 255]);
+        assert_eq!(chunk_of(&noise, &vec![0; 64_000]), [6, 0, 0, 0, 13, 0]);
+        // A flat row takes 7 bytes of BRUN, 1400 in all, and 10 of kind 12: 133 changed rows of 199 come out even.
+        for (rows, kind) in [(198, kind::LC), (199, kind::BRUN), (200, kind::BRUN)] {
+            let mut previous = flat.clone();
+            previous[..320 * 132].fill(9);
+            previous[320 * (rows - 1)..320 * rows].fill(9);
+            let body = Document.lc_body(320, &previous, &flat).len();
+            assert_eq!((body, u16::from(chunk_of(&previous, &flat)[4])), (1_201 + rows, kind), "{rows} rows");
+        }
+    }
+
     #[test]
     fn colours_take_a_packet_for_each_stretch() {
         let mut new = GREY;
@@ -558,11 +691,14 @@ mod tests {
         let shown = |picture, palette| Pair { picture, palette };
         let numbered = |answer: Result<usize, Refusal>| answer.map_err(|refusal| (refusal.number, refusal.place));
         let right = shown(&[0; 1], &GREY);
-        assert_eq!(numbered(Document.write_frame(0, 1, shown(&[], &[]), right, &mut [])), Err((2, 0)));
-        assert_eq!(numbered(Document.write_frame(1, 1, shown(&[], &GREY), right, &mut [])), Err((1, 0)));
-        assert_eq!(numbered(Document.write_frame(1, 1, right, shown(&[0], &GREY[1..]), &mut [])), Err((1, 0)));
-        assert_eq!(numbered(Document.write_frame(1, 1, right, right, &mut [0; 15])), Err((3, 0)));
-        assert_eq!(numbered(Document.write_frame(1, 1, right, right, &mut [0; 16])), Ok(16));
+        assert_eq!(numbered(Document.write_frame(Format::Flc, 0, 1, shown(&[], &[]), right, &mut [])), Err((2, 0)));
+        assert_eq!(numbered(Document.write_frame(Format::Flc, 1, 1, shown(&[], &GREY), right, &mut [])), Err((1, 0)));
+        assert_eq!(
+            numbered(Document.write_frame(Format::Flc, 1, 1, right, shown(&[0], &GREY[1..]), &mut [])),
+            Err((1, 0))
+        );
+        assert_eq!(numbered(Document.write_frame(Format::Flc, 1, 1, right, right, &mut [0; 15])), Err((3, 0)));
+        assert_eq!(numbered(Document.write_frame(Format::Flc, 1, 1, right, right, &mut [0; 16])), Ok(16));
     }
 
     #[test]
@@ -571,8 +707,16 @@ mod tests {
         let rewritten = |bytes: &[u8], room: usize| {
             let (mut picture, mut palette, mut out) = ([8; 2], [8; 769], vec![0; room]);
             let work = PairMut { picture: &mut picture, palette: &mut palette };
-            let answer =
-                Document.rewrite_frame(&MODEL, bytes, 1, 1, Pair { picture: &[0], palette: &GREY }, work, &mut out);
+            let answer = Document.rewrite_frame(
+                &MODEL,
+                bytes,
+                Format::Flc,
+                1,
+                1,
+                Pair { picture: &[0], palette: &GREY },
+                work,
+                &mut out,
+            );
             (answer.map_err(|refusal| refusal.number), picture, palette[0], palette[768], out)
         };
         let house = [23, 0, 0, 0, 0xFA, 0xF1, 1, 0, 0, 0, 0, 0, 0, 0, 0, 0, 7, 0, 0, 0, 16, 0, 3];

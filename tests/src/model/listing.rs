@@ -140,15 +140,16 @@ pub trait Listings {
 #[cfg(test)]
 mod tests {
     use super::*;
-    use crate::model::MODEL;
-    use crate::reels::examples::blank_reel;
+    use crate::model::{Format, MODEL};
+    use crate::reels::examples::{blank_fli, blank_reel};
     use crate::reels::loose_reel::Loose;
     use crate::trailers::examples::{BLANK_LISTING, BLANK_TRAILER};
     use crate::trailers::nest::{chunk, container};
 
     /// The lines between the header's and the last one, of a 1 by 1 reel of one frame.
     fn listed(chunks: &[Vec<u8>]) -> Vec<String> {
-        let reel = Loose { width: 1, height: 1, frames: 1, chunks: chunks.to_vec(), after: Vec::new() };
+        let (format, chunks) = (Format::Flc, chunks.to_vec());
+        let reel = Loose { format, width: 1, height: 1, frames: 1, chunks, after: Vec::new() };
         let text = MODEL.text(&reel.bytes());
         let lines: Vec<&str> = text.split_terminator('\n').collect();
         assert_eq!((lines[0], lines[lines.len() - 1]), ("flic 1 1 1", "ok"));
@@ -177,11 +178,13 @@ mod tests {
     fn refusals_are_lines() {
         let reel = blank_reel();
         assert_eq!(MODEL.text(&[]), "refused 4 0\n");
+        assert_eq!(MODEL.text(&blank_fli()), "refused 5 0\n");
         assert_eq!(MODEL.list(&reel[..127], &mut [0; 12]), Ok(12));
         assert_eq!(MODEL.list(&reel[..127], &mut [0; 11]), Err(Refusal::new(3, 0)));
         assert_eq!(MODEL.text(&vec![0; MOST_LISTED]), "refused 5 0\n");
         assert_eq!(MODEL.text(&vec![0; MOST_LISTED + 1]), "refused 3 0\n");
-        let mut reel = Loose { width: 1, height: 1, frames: 2, chunks: vec![still(), still()], after: Vec::new() };
+        let (format, chunks) = (Format::Flc, vec![still(), still()]);
+        let mut reel = Loose { format, width: 1, height: 1, frames: 2, chunks, after: Vec::new() };
         assert_eq!(MODEL.text(&reel.bytes()), "refused 15 160\n");
         reel.after = vec![0; MOST_LISTED - 160];
         assert_eq!(MODEL.text(&reel.bytes()), "refused 15 160\n");

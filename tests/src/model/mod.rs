@@ -7,6 +7,7 @@ pub mod check;
 pub mod decode;
 pub mod encode;
 pub mod file_header;
+pub mod format;
 pub mod listing;
 pub mod player;
 pub mod playing;
@@ -20,6 +21,7 @@ use decode::Frames;
 use encode::House;
 use file_header::Headers;
 use flic_boundary::{Pair, PairMut, Player, Reel, TileRow};
+use format::Formats;
 use listing::Listings;
 use player::Players;
 use playing::Playing;
@@ -30,6 +32,7 @@ use trailer::Trailers;
 pub use build::Outcome;
 pub use encode::Searched;
 pub use file_header::{field, FileHeader, FILE_HEADER};
+pub use format::{Format, Jiffies, Milliseconds};
 pub use listing::{MOST_DEPTH, MOST_LISTED};
 pub use player::Event;
 pub use top_level::Span;
@@ -40,6 +43,7 @@ pub struct Document;
 /// A reading of the documents, part by part.
 #[derive(Clone, Copy)]
 pub struct Model {
+    pub formats: &'static dyn Formats,
     pub frames: &'static dyn Frames,
     pub house: &'static dyn House,
     pub headers: &'static dyn Headers,
@@ -55,6 +59,7 @@ pub struct Model {
 
 /// The oracle.
 pub const MODEL: Model = Model {
+    formats: &Document,
     frames: &Document,
     house: &Document,
     headers: &Document,
@@ -70,31 +75,41 @@ pub const MODEL: Model = Model {
 
 /// The entry points.
 impl Model {
-    pub fn read_frame(&self, bytes: &[u8], width: u64, height: u64, shown: PairMut) -> Result<(), Refusal> {
-        self.frames.read_frame(bytes, width, height, shown)
+    pub fn read_frame(
+        &self,
+        bytes: &[u8],
+        format: u32,
+        width: u64,
+        height: u64,
+        shown: PairMut,
+    ) -> Result<(), Refusal> {
+        self.frames.read_frame(bytes, self.formats.told(format), width, height, shown)
     }
 
     pub fn write_frame(
         &self,
+        format: u32,
         width: u64,
         height: u64,
         previous: Pair,
         next: Pair,
         out: &mut [u8],
     ) -> Result<usize, Refusal> {
-        self.house.write_frame(width, height, previous, next, out)
+        self.house.write_frame(self.formats.told(format), width, height, previous, next, out)
     }
 
+    #[allow(clippy::too_many_arguments)]
     pub fn rewrite_frame(
         &self,
         bytes: &[u8],
+        format: u32,
         width: u64,
         height: u64,
         previous: Pair,
         work: PairMut,
         out: &mut [u8],
     ) -> Result<usize, Refusal> {
-        self.house.rewrite_frame(self, bytes, width, height, previous, work, out)
+        self.house.rewrite_frame(self, bytes, self.formats.told(format), width, height, previous, work, out)
     }
 
     pub fn search_row(&self, row: &[u8]) -> Result<Searched, Refusal> {
@@ -106,7 +121,11 @@ impl Model {
     }
 
     pub fn open_reel(&self, width: u64, height: u64, speed: u32, bytes: &mut [u8]) -> Outcome {
-        self.building.open_reel(self, width, height, speed, bytes)
+        self.building.open_reel(self, width, height, Milliseconds(speed.into()), bytes)
+    }
+
+    pub fn open_fli(&self, width: u64, height: u64, jiffies: u32, bytes: &mut [u8]) -> Outcome {
+        self.building.open_fli(self, width, height, Jiffies(jiffies.into()), bytes)
     }
 
     pub fn add_frame(&self, reel: Reel, bytes: &mut [u8], shown: Pair, next: Pair) -> Outcome {
@@ -130,11 +149,19 @@ impl Model {
     }
 
     pub fn read_header(&self, bytes: &[u8]) -> Result<FileHeader, Refusal> {
-        self.headers.read_header(bytes)
+        self.headers.read_header(self, bytes)
     }
 
     pub fn next_frame(&self, bytes: &[u8], at: u64) -> Result<Span, Refusal> {
         self.top_level.next_frame(bytes, at)
+    }
+
+    pub fn in_milliseconds(&self, jiffies: u32) -> Result<Milliseconds, Refusal> {
+        self.formats.in_milliseconds(Jiffies(jiffies.into()))
+    }
+
+    pub fn in_jiffies(&self, milliseconds: u32) -> Result<Jiffies, Refusal> {
+        self.formats.in_jiffies(Milliseconds(milliseconds.into()))
     }
 
     pub fn start_player(&self, bytes: &[u8], now: u32, first: PairMut, second: PairMut) -> Result<Player, Refusal> {
@@ -175,8 +202,8 @@ impl Model {
 /// What the inputs of the tests are made with besides.
 impl Model {
     /// The house frame that leads from `previous` to `next`, of which no slice is too short.
-    pub fn house_frame(&self, width: usize, height: usize, previous: Pair, next: Pair) -> Vec<u8> {
-        self.house.frame(width, height, previous, next)
+    pub fn house_frame(&self, format: Format, width: usize, height: usize, previous: Pair, next: Pair) -> Vec<u8> {
+        self.house.frame(format, width, height, previous, next)
     }
 
     /// A listing's text.
@@ -188,6 +215,10 @@ impl Model {
 /// The largest width and height of a picture.
 pub const MAX_WIDTH: u64 = 320;
 pub const MAX_HEIGHT: u64 = 200;
+
+/// The width and height of an FLI.
+pub const FLI_WIDTH: u64 = 320;
+pub const FLI_HEIGHT: u64 = 200;
 
 /// A palette is 256 entries of red, green, blue.
 pub const PALETTE_BYTES: usize = 768;
@@ -233,6 +264,7 @@ pub mod number {
     pub const WRONG_TRAILER: u32 = 17;
     pub const CLOSED_OR_FULL: u32 = 18;
     pub const SPARE_BYTES: u32 = 19;
+    pub const NOT_IN_FLI: u32 = 20;
 }
 
 /// A refusal: its number, and the offset of the chunk at fault.
@@ -248,15 +280,15 @@ impl Refusal {
     }
 }
 
-/// Document 01's check 2: the size as numbers that can be counted with.
-pub fn accepted_size(width: u64, height: u64) -> Result<(usize, usize), Refusal> {
-    let width_is_right = (1..=MAX_WIDTH).contains(&width);
-    let height_is_right = (1..=MAX_HEIGHT).contains(&height);
-    if width_is_right && height_is_right {
-        Ok((width as usize, height as usize))
-    } else {
-        Err(Refusal::new(number::BAD_SIZE, 0))
-    }
+/// Document 01's check 2: the size as numbers that can be counted with. Of an FLI "size not 320 by 200 is 2" (document 02,
+/// Req 06).
+pub fn accepted_size(format: Format, width: u64, height: u64) -> Result<(usize, usize), Refusal> {
+    let is_right = match format {
+        Format::Flc => (1..=MAX_WIDTH).contains(&width) && (1..=MAX_HEIGHT).contains(&height),
+        Format::Fli => (width, height) == (FLI_WIDTH, FLI_HEIGHT),
+    };
+    require(is_right, number::BAD_SIZE, 0)?;
+    Ok((width as usize, height as usize))
 }
 
 /// Document 01's check 1, over every picture and palette slice of a call.

@@ -2,7 +2,7 @@
 //! bits wide and rolls over."
 
 use super::playing::Played;
-use super::{accepted_size, long_enough, number, require, Document, Model, Refusal, FILE_HEADER};
+use super::{accepted_size, long_enough, number, require, Document, Milliseconds, Model, Refusal, FILE_HEADER};
 use flic_boundary::{PairMut, Player};
 
 /// How many readings the counter has.
@@ -92,9 +92,10 @@ pub trait Players {
         model.check_reel(bytes, checked, second)?;
         let header = model.read_header(bytes)?;
         let frame = model.next_frame(&bytes[..header.size], FILE_HEADER as u64)?;
-        let mut played = Played::from_blank(header.width, header.height);
+        let mut played = Played::from_blank(header.format, header.width, header.height);
         model.playing.play(model, &bytes[frame.start..frame.end], frame.start, &mut played)?;
         model.playing.put(&played.first, &mut first);
+        let Milliseconds(speed) = header.speed;
         Ok(Player {
             width: header.width as u64,
             height: header.height as u64,
@@ -102,8 +103,9 @@ pub trait Players {
             number: 1,
             place: frame.end as u64,
             first_end: frame.end as u64,
-            speed: header.speed,
+            speed: speed as u32,
             last: now,
+            format: header.format.number(),
         })
     }
 
@@ -131,12 +133,14 @@ pub trait Players {
 
     /// "at a tick that draws 2, 1, 4 .., then the check's from there through the frame drawn"; gives where that one ends.
     fn draw(&self, model: &Model, player: &Player, bytes: &[u8], shown: PairMut) -> Result<usize, Refusal> {
-        let (width, height) = accepted_size(player.width, player.height)?;
+        let format = model.formats.told(player.format);
+        let (width, height) = accepted_size(format, player.width, player.height)?;
         long_enough(width * height, &[&*shown.picture], &[&*shown.palette])?;
         self.record_fits(player, bytes.len() as u64)?;
         let frame = model.next_frame(&bytes[..self.end(bytes)], player.place)?;
         model
-            .read_frame(&bytes[frame.start..frame.end], player.width, player.height, shown)
+            .frames
+            .read_frame(&bytes[frame.start..frame.end], format, player.width, player.height, shown)
             .map_err(|refusal| model.playing.in_reel(refusal, frame.start))?;
         Ok(frame.end)
     }
@@ -195,7 +199,8 @@ mod tests {
     use super::*;
     use crate::frames::{frame_of, Chunk};
     use crate::model::{kind, MODEL, PALETTE_BYTES};
-    use crate::reels::examples::{blank_reel, SPEED};
+    use crate::reels::examples::{blank_fli, blank_reel, JIFFIES, SPEED};
+    use crate::states::State;
     use Event::{Drawn, NothingDue, SetBack};
 
     const FILL: u8 = 0x77;
@@ -249,6 +254,7 @@ mod tests {
             first_end: ENDS[0],
             speed: SPEED,
             last: 5,
+            format: 0,
         };
         assert_eq!(
             (player, first.picture, first.palette[0], first.palette[PALETTE_BYTES]),
@@ -373,6 +379,24 @@ mod tests {
         let mut damaged = bytes.clone();
         damaged[ENDS[0] as usize + 16] = 6;
         assert_eq!(refused(right, &damaged, 1), (7, ENDS[0] + 16));
+    }
+
+    #[test]
+    fn an_fli_ticks_in_milliseconds() {
+        let bytes = blank_fli();
+        let pair = || State::blank(64_000);
+        let (mut first, mut second) = (pair(), pair());
+        let mut player = MODEL.start_player(&bytes, 0, first.work(), second.work()).expect("this reel is right");
+        assert_eq!((JIFFIES, player.speed, player.format), (5, 71, 1));
+        assert_eq!(MODEL.tick(&mut player, &bytes, 70, first.work()), Ok(NothingDue));
+        assert_eq!(MODEL.tick(&mut player, &bytes, 71, first.work()), Ok(Drawn));
+        assert_eq!((player.number, player.last), (2, 71));
+        player.format = u32::MAX;
+        assert_eq!(MODEL.tick(&mut player, &bytes, 142, first.work()), Ok(Drawn));
+        player.width = 319;
+        assert_eq!(MODEL.tick(&mut player, &bytes, 213, first.work()), Err(Refusal::new(2, 0)));
+        player.format = 0;
+        assert_eq!(MODEL.tick(&mut player, &bytes, 213, first.work()), Ok(Drawn));
     }
 
     #[test]

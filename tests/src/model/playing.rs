@@ -1,6 +1,6 @@
 //! Playing a reel: the states that it goes through, and the two working pairs in which a check and a close leave them.
 
-use super::{Document, Model, Refusal, PALETTE_BYTES};
+use super::{Document, Format, Model, Refusal, PALETTE_BYTES};
 use flic_boundary::{Pair, PairMut};
 
 /// A picture and palette without excess.
@@ -28,6 +28,7 @@ impl Screen {
 
 /// A reel that is being played.
 pub struct Played {
+    pub format: Format,
     pub width: usize,
     pub height: usize,
     pub frames: usize,
@@ -39,9 +40,9 @@ pub struct Played {
 
 impl Played {
     /// "frame 1 is read against blank".
-    pub fn from_blank(width: usize, height: usize) -> Played {
+    pub fn from_blank(format: Format, width: usize, height: usize) -> Played {
         let blank = Screen::blank(width * height);
-        Played { width, height, frames: 0, last: blank.clone(), first: blank }
+        Played { format, width, height, frames: 0, last: blank.clone(), first: blank }
     }
 }
 
@@ -50,10 +51,11 @@ impl Playing for Document {}
 pub trait Playing {
     /// Plays the frame at the front of `bytes`, which stands at `place` in the reel.
     fn play(&self, model: &Model, bytes: &[u8], place: usize, played: &mut Played) -> Result<(), Refusal> {
-        let Played { width, height, frames, last, first } = played;
+        let Played { format, width, height, frames, last, first } = played;
         let shown = PairMut { picture: &mut last.picture, palette: &mut last.palette };
         model
-            .read_frame(bytes, *width as u64, *height as u64, shown)
+            .frames
+            .read_frame(bytes, *format, *width as u64, *height as u64, shown)
             .map_err(|refusal| self.in_reel(refusal, place))?;
         if *frames == 0 {
             *first = last.clone();

@@ -1,7 +1,7 @@
 //! Which tiles a panel redraws: document 02's Req 07. "The slow panels redraw in tiles of 8 by 8 pixels, right and bottom
 //! ones cut short."
 
-use super::{accepted_size, long_enough, number, require, Document, Refusal};
+use super::{accepted_size, long_enough, number, require, Document, Format, Refusal};
 use flic_boundary::TileRow;
 
 /// How many pixels a tile is wide and high.
@@ -42,7 +42,7 @@ pub trait Tiles {
         next: &[u8],
         words: usize,
     ) -> Result<(usize, usize), Refusal> {
-        let (width, height) = accepted_size(width, height)?;
+        let (width, height) = accepted_size(Format::Flc, width, height)?;
         long_enough(width * height, &[previous, next], &[])?;
         require(words >= self.along(height), number::SHORT_OUTPUT, 0)?;
         Ok((width, height))

@@ -1,7 +1,7 @@
 //! The trailer: the index of a reel's frames after its size, and the eight bytes behind it that tell of it.
 
 use super::top_level::is_frame;
-use super::{number, require, Document, FileHeader, Model, Refusal, Span};
+use super::{number, require, Document, FileHeader, Format, Model, Refusal, Span};
 
 /// The trailer's own bytes.
 pub const TRAILER: usize = 8;
@@ -17,9 +17,9 @@ pub struct Walked {
 }
 
 /// "Checking or writing a trailer first walks the header and top-level chunks with their refusals; no sub-chunk is
-/// opened and no ring compared."
+/// opened and no ring compared." "Listing, trailers and later work that checks a trailer stay FLC" (document 02, Req 06).
 pub fn walked(model: &Model, bytes: &[u8]) -> Result<Walked, Refusal> {
-    let header = model.headers.accepted(bytes, &[], &[])?;
+    let header = model.headers.accepted(model, bytes, &[Format::Flc], &[], &[])?;
     let mut chunks = Vec::new();
     model.top_level.walk(bytes, &header, &mut |chunk| {
         chunks.push(chunk);
@@ -86,8 +86,8 @@ pub trait Trailers {
 
 #[cfg(test)]
 mod tests {
-    use crate::model::MODEL;
-    use crate::reels::examples::blank_reel;
+    use crate::model::{Format, MODEL};
+    use crate::reels::examples::{blank_fli, blank_reel};
     use crate::reels::loose_reel::Loose;
     use crate::trailers::examples::BLANK_TRAILER;
 
@@ -137,7 +137,7 @@ mod tests {
 
     fn reel(chunks: &[&[u8]], frames: usize, after: &[u8]) -> Vec<u8> {
         let chunks = chunks.iter().map(|chunk| chunk.to_vec()).collect();
-        Loose { width: 1, height: 1, frames, chunks, after: after.to_vec() }.bytes()
+        Loose { format: Format::Flc, width: 1, height: 1, frames, chunks, after: after.to_vec() }.bytes()
     }
 
     #[test]
@@ -158,6 +158,9 @@ mod tests {
         let cut = reel(&[&STILL, &STILL[..15]], 1, &[FILL]);
         assert_eq!((checked(&cut), written(&cut).0), (Err((4, 144)), Err((4, 144))));
         assert_eq!((checked(&[]), written(&[]).0), (Err((4, 0)), Err((4, 0))));
+        let fli = [blank_fli(), vec![0; 16]].concat();
+        assert_eq!((checked(&fli), written(&fli)), (Err((5, 0)), (Err((5, 0)), fli.clone())));
+        assert_eq!(checked(&fli[..127]), Err((4, 0)));
         let mut flags = reel(&[&STILL, &STILL], 1, &[FILL]);
         flags[14] = 1;
         assert_eq!((checked(&flags), written(&flags).0), (Err((14, 0)), Err((14, 0))));

@@ -1,6 +1,7 @@
 //! The family of clocks: every speed, draw times around the roll-over, and readings at every edge from there.
 
-use super::make::{whole, HALF, SPEEDS};
+use super::make::{delays, whole, HALF};
+use crate::model::Format;
 use crate::rng::Rng;
 use crate::runner::calls::ReplayCase;
 use crate::runner::inputs::{Case, Sink};
@@ -32,10 +33,11 @@ fn differences(rng: &mut Rng, speed: u32) -> [u32; 14] {
 }
 
 /// One reel at every speed: a tick and a replay of one reading for each draw time and difference.
-pub fn clocks(rng: &mut Rng, sink: Sink) {
-    let mut whole = whole(rng);
-    for speed in SPEEDS {
-        whole = whole.at_speed(speed);
+pub fn clocks(rng: &mut Rng, format: Format, sink: Sink) {
+    let mut whole = whole(rng, format);
+    for delay in delays(format) {
+        whole = whole.at_speed(*delay);
+        let speed = whole.speed();
         for last in lasts(rng, speed) {
             for difference in differences(rng, speed) {
                 let (number, now) = (1 + rng.below(whole.spans.len()) as u64, last.wrapping_add(difference));

@@ -1,7 +1,7 @@
 //! Families of players that nothing was done to: started, ticked, and replayed.
 
 use super::make::{readings, whole, Whole};
-use crate::model::{MAX_FRAMES, MAX_HEIGHT, MAX_WIDTH, MODEL};
+use crate::model::{Format, MAX_FRAMES, MAX_HEIGHT, MAX_WIDTH, MODEL};
 use crate::reels::built_reel::Built;
 use crate::rng::Rng;
 use crate::runner::calls::TickCase;
@@ -15,10 +15,10 @@ fn some_start(rng: &mut Rng) -> u32 {
 }
 
 /// A start, each tick of a list of readings by itself, and the whole of them with their replay.
-pub fn ticked(rng: &mut Rng, sink: Sink) {
-    let whole = whole(rng);
+pub fn ticked(rng: &mut Rng, format: Format, sink: Sink) {
+    let whole = whole(rng, format);
     let (now, count) = (some_start(rng), rng.between(1, 3 * whole.spans.len() + 3));
-    let list = readings(rng, whole.header.speed, now, count);
+    let list = readings(rng, whole.speed(), now, count);
     let start = whole.start(rng, now);
     sink(Case::Start(start.clone()));
     let mut player = whole.standing(1, now);
@@ -47,17 +47,18 @@ fn laps(rng: &mut Rng, whole: Whole, count: usize) -> LiveCase {
 /// Reels of the largest size.
 pub fn largest(rng: &mut Rng, sink: Sink) {
     let frames = rng.between(1, 3);
-    let whole = Whole::of(Built::in_order(rng, MAX_WIDTH as usize, MAX_HEIGHT as usize, frames).closed().1);
+    let whole =
+        Whole::of(Built::in_order(rng, Format::Flc, MAX_WIDTH as usize, MAX_HEIGHT as usize, frames).closed().1);
     sink(Case::Live(laps(rng, whole, 8)));
 }
 
 /// A reel of 4,000 frames, up to its ring and on.
 pub fn longest(rng: &mut Rng, sink: Sink) {
     let (width, height) = (3, 2);
-    let mut built = Built::opened(rng, width, height);
+    let mut built = Built::opened(rng, Format::Flc, width, height);
     let mut shown = State::blank(width * height);
     for _ in 0..MAX_FRAMES {
-        let next = if rng.once_in(40) { next_state(rng, &shown, width, height) } else { shown.clone() };
+        let next = if rng.once_in(40) { next_state(rng, Format::Flc, &shown, width, height) } else { shown.clone() };
         built.add(shown, next.clone());
         shown = next;
     }

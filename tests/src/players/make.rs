@@ -1,13 +1,13 @@
 //! What the families of players share: reels that are whole, players of which any frame stands, speeds and readings.
 
-use crate::damage::set_size;
-use crate::model::{field, FileHeader, Span, FILE_HEADER, MODEL};
+use crate::damage::{set_size, set_word};
+use crate::model::{field, FileHeader, Format, Jiffies, Milliseconds, Span, FILE_HEADER, MODEL};
 use crate::reels::built_reel::Built;
 use crate::reels::loose_reel::{any_frame, Loose};
 use crate::reels::make::{pair, pixels_of, play, reel_size};
 use crate::rng::Rng;
 use crate::runner::calls::{StartCase, TickCase};
-use crate::sizes::long_or_exact;
+use crate::sizes::{long_or_exact, size_of};
 use crate::states::{lend, State};
 use crate::trailers::make::trailer_of;
 use flic_boundary::Player;
@@ -21,6 +21,17 @@ pub const SPEEDS: [u32; 16] =
 
 /// Speeds with which a frame can be due.
 const DUE_SPEEDS: [u32; 6] = [0, 1, 70, 70, 65_536, HALF - 1];
+
+/// Jiffies of an FLI, of which any lets a frame be due.
+const JIFFIES: [u32; 9] = [0, 1, 2, 5, 6, 7, 70, 65_534, 65_535];
+
+/// Delays as the format's header holds them.
+pub fn delays(format: Format) -> &'static [u32] {
+    match format {
+        Format::Flc => &SPEEDS,
+        Format::Fli => &JIFFIES,
+    }
+}
 
 /// A reel that the check accepts, with what its frames show.
 pub struct Whole {
@@ -39,7 +50,7 @@ impl Whole {
         let mut at = FILE_HEADER;
         for _ in 0..=header.frames {
             let span = MODEL.next_frame(&bytes[..header.size], at as u64).expect("a whole reel has all frames");
-            play(header.width, header.height, &mut shown, &bytes[span.start..span.end]);
+            play(header.format, header.width, header.height, &mut shown, &bytes[span.start..span.end]);
             at = span.end;
             spans.push(span);
             states.push(shown.clone());
@@ -48,11 +59,24 @@ impl Whole {
         Whole { bytes, header, spans, states }
     }
 
-    /// The same with another speed.
-    pub fn at_speed(mut self, speed: u32) -> Whole {
-        set_size(&mut self.bytes, field::SPEED, speed);
-        self.header.speed = speed;
+    /// The same with another delay: milliseconds, or of an FLI jiffies.
+    pub fn at_speed(mut self, delay: u32) -> Whole {
+        match self.header.format {
+            Format::Flc => {
+                set_size(&mut self.bytes, field::SPEED, delay);
+                self.header.speed = Milliseconds(delay.into());
+            }
+            Format::Fli => {
+                set_word(&mut self.bytes, field::SPEED, delay as u16);
+                self.header.speed = MODEL.formats.milliseconds(Jiffies(delay.into()));
+            }
+        }
         self
+    }
+
+    /// For how many milliseconds a frame shows.
+    pub fn speed(&self) -> u32 {
+        self.header.speed.0 as u32
     }
 
     pub fn frames(&self) -> u64 {
@@ -62,10 +86,11 @@ impl Whole {
     /// The record of a player of which this frame stands, drawn at `last`.
     pub fn standing(&self, number: u64, last: u32) -> Player {
         let end_of = |number: u64| self.spans[number as usize - 1].end as u64;
-        let FileHeader { width, height, speed, .. } = self.header;
+        let FileHeader { format, width, height, .. } = self.header;
         let place = if number > self.frames() { end_of(1) } else { end_of(number) };
         let (width, height, frames) = (width as u64, height as u64, self.frames());
-        Player { width, height, frames, number, place, first_end: end_of(1), speed, last }
+        let (speed, format) = (self.speed(), format.number());
+        Player { width, height, frames, number, place, first_end: end_of(1), speed, last, format }
     }
 
     /// Such a record for any frame and any draw time.
@@ -84,7 +109,7 @@ impl Whole {
     pub fn tick_of(&self, rng: &mut Rng, player: Player, bytes: Vec<u8>, now: u32) -> TickCase {
         let state = &self.states[(player.number.wrapping_sub(1) % self.frames()) as usize];
         let lengths = long_or_exact(rng, pixels_of(player.width, player.height));
-        TickCase { player, bytes, now, shown: lend(rng, state, lengths) }
+        TickCase { player: player.into(), bytes, now, shown: lend(rng, state, lengths) }
     }
 
     /// A start of these bytes.
@@ -100,29 +125,35 @@ pub fn due(player: &Player) -> u32 {
 }
 
 /// A reel of one frame, two or some, as the builder leaves it or of any chunks.
-pub fn whole(rng: &mut Rng) -> Whole {
-    let speed = rng.pick(&SPEEDS);
-    let bytes = if rng.once_in(3) { own(rng) } else { odd(rng) };
+pub fn whole(rng: &mut Rng, format: Format) -> Whole {
+    let speed = rng.pick(delays(format));
+    let bytes = if rng.once_in(3) { own(rng, format) } else { odd(rng, format) };
     Whole::of(bytes).at_speed(speed)
 }
 
 /// The same with a speed that lets frames be due.
-pub fn lively(rng: &mut Rng) -> Whole {
-    let speed = rng.pick(&DUE_SPEEDS);
-    whole(rng).at_speed(speed)
+pub fn lively(rng: &mut Rng, format: Format) -> Whole {
+    let whole = whole(rng, format);
+    match format {
+        Format::Flc => whole.at_speed(rng.pick(&DUE_SPEEDS)),
+        Format::Fli => whole,
+    }
 }
 
-fn own(rng: &mut Rng) -> Vec<u8> {
-    let (width, height) = reel_size(rng);
-    let frames = rng.pick(&[1, 1, 2, 2, 3, 5, 12]);
-    Built::in_order(rng, width, height, frames).closed().1
+fn own(rng: &mut Rng, format: Format) -> Vec<u8> {
+    let (width, height) = size_of(rng, format, reel_size);
+    let frames = match format {
+        Format::Flc => rng.pick(&[1, 1, 2, 2, 3, 5, 12]),
+        Format::Fli => rng.between(1, 3),
+    };
+    Built::in_order(rng, format, width, height, frames).closed().1
 }
 
 /// Frames of all kinds, chunks between them that are stepped over, and behind the size nothing, anything, a frame, or an
-/// index and its trailer.
-fn odd(rng: &mut Rng) -> Vec<u8> {
-    let mut loose = Loose::small(rng);
-    let frame = any_frame(rng, loose.width, loose.height, None).bytes();
+/// index and its trailer, which an FLI hasn't.
+fn odd(rng: &mut Rng, format: Format) -> Vec<u8> {
+    let mut loose = Loose::small(rng, format);
+    let frame = any_frame(rng, format, loose.width, loose.height, None).bytes();
     if !rng.once_in(4) {
         loose.add_others(rng);
     }
@@ -132,7 +163,7 @@ fn odd(rng: &mut Rng) -> Vec<u8> {
             rng.bytes(length)
         }
         1 | 2 => frame,
-        3 => trailer_of(&loose.bytes()),
+        3 if format == Format::Flc => trailer_of(&loose.bytes()),
         _ => Vec::new(),
     };
     loose.bytes()

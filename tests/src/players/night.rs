@@ -2,12 +2,12 @@
 //! of all the readings against both.
 
 use super::make::Whole;
-use crate::model::{Event, MODEL};
+use crate::model::{Event, Format, MODEL};
 use crate::reels::loose_reel::Loose;
 use crate::rng::Rng;
-use crate::runner::calls::{player_in, ReplayCase, StartCase, TickCase};
+use crate::runner::calls::{ReplayCase, StartCase, TickCase};
 use crate::runner::compare::Subject;
-use crate::runner::lent::{bytes_of, Lent};
+use crate::runner::lent::{bytes_of, Lent, PlayerIn, Record};
 use crate::runner::told::{Rest, Told};
 use crate::sizes::exact;
 use crate::states::{any_state, State};
@@ -48,7 +48,7 @@ impl Side<'_> {
             return Err(format!("the start is refused: {told:?}"));
         };
         let [bytes, picture, palette, ..] = slices;
-        Ok(Side { subject, slices: [bytes_of(&[player]).to_vec(), bytes, picture, palette] })
+        Ok(Side { subject, slices: [bytes_of(&[Record::from(player)]).to_vec(), bytes, picture, palette] })
     }
 
     fn tick(&mut self, tick: &TickCase) -> Told {
@@ -56,7 +56,7 @@ impl Side<'_> {
     }
 
     fn player(&mut self) -> Player {
-        *player_in(&mut self.slices[0])
+        *PlayerIn::of(&mut self.slices[0])
     }
 
     /// The numbers of a replay.
@@ -70,7 +70,7 @@ impl Side<'_> {
 
 /// A reel of seven frames with other chunks between them.
 fn reel(rng: &mut Rng) -> Whole {
-    let mut loose = Loose::ringed(rng, 12, 5, FRAMES);
+    let mut loose = Loose::ringed(rng, Format::Flc, 12, 5, FRAMES);
     loose.add_others(rng);
     Whole::of(loose.bytes()).at_speed(SPEED)
 }
@@ -86,7 +86,7 @@ pub fn night(subject: &dyn Subject, length: u32, seed: u64) -> Result<Night, Str
     let started = StartCase { bytes: whole.bytes.clone(), now: start, first, second };
     let (mut live, mut model) = (Side::started(subject, &started)?, Side::started(&MODEL, &started)?);
     let nothing = State { picture: Vec::new(), palette: Vec::new() };
-    let mut tick = TickCase { player: Player::default(), bytes: Vec::new(), now: start, shown: nothing };
+    let mut tick = TickCase { player: Player::default().into(), bytes: Vec::new(), now: start, shown: nothing };
     let (mut readings, mut numbers) = (Vec::new(), Vec::new());
     let (mut elapsed, mut draws) = (0, 0);
     loop {

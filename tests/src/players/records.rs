@@ -1,7 +1,7 @@
 //! Families of records that were altered, and of slices that are longer or too short, in ticks that draw and in others.
 
 use super::make::{due, lively, Whole, HALF};
-use crate::model::PALETTE_BYTES;
+use crate::model::{Format, PALETTE_BYTES};
 use crate::rng::Rng;
 use crate::runner::calls::TickCase;
 use crate::runner::inputs::{Case, Sink};
@@ -33,9 +33,12 @@ fn numbers(frames: u64) -> Vec<(u64, u64)> {
     numbers
 }
 
+/// Numbers of formats, of which only the first is FLC.
+const FORMATS: [u32; 6] = [0, 1, 2, 256, 1 << 31, u32::MAX];
+
 /// A record with each of its fields altered in turn, ticked when a frame is due, and now and then when none is.
-pub fn records(rng: &mut Rng, sink: Sink) {
-    let whole = lively(rng);
+pub fn records(rng: &mut Rng, format: Format, sink: Sink) {
+    let whole = lively(rng, format);
     let right = whole.any_standing(rng);
     let mut altered = Vec::new();
     altered.extend(places(rng, &whole).into_iter().map(|place| Player { place, ..right }));
@@ -45,12 +48,14 @@ pub fn records(rng: &mut Rng, sink: Sink) {
         altered.push(Player { first_end, ..right });
     }
     for _ in 0..6 {
-        let (width, height) = wrong_size(rng);
+        let (width, height) = wrong_size(rng, format);
         altered.push(Player { width, height, ..right });
     }
     for (width, height) in [(right.width + 1, right.height), (1, 1), (320, 1), (1, 200)] {
         altered.push(Player { width, height, ..right });
+        altered.push(Player { width, height, format: rng.pick(&FORMATS), ..right });
     }
+    altered.extend(FORMATS.map(|format| Player { format, ..right }));
     for player in altered {
         let now = due(&player);
         let tick = whole.tick(rng, player, now);
@@ -66,20 +71,21 @@ pub fn records(rng: &mut Rng, sink: Sink) {
 #[derive(Clone, Copy, PartialEq, Eq)]
 enum Fault {
     Size,
+    Format,
     Slices,
     Place,
     Number,
 }
 
-const FAULTS: [Fault; 4] = [Fault::Size, Fault::Slices, Fault::Place, Fault::Number];
+const FAULTS: [Fault; 5] = [Fault::Size, Fault::Format, Fault::Slices, Fault::Place, Fault::Number];
 
 /// Every two faults at once, when a frame is due and when none is.
-pub fn faults(rng: &mut Rng, sink: Sink) {
-    let whole = lively(rng);
+pub fn faults(rng: &mut Rng, format: Format, sink: Sink) {
+    let whole = lively(rng, format);
     for (at, one) in FAULTS.iter().enumerate() {
         for other in &FAULTS[at..] {
             let tick = two_faults(rng, &whole, [*one, *other]);
-            let TickCase { player, .. } = tick;
+            let player = Player::from(tick.player);
             for now in [due(&player), player.last.wrapping_sub(1), player.last] {
                 sink(Case::Tick(TickCase { now, ..tick.clone() }));
             }
@@ -93,18 +99,19 @@ fn two_faults(rng: &mut Rng, whole: &Whole, faults: [Fault; 2]) -> TickCase {
     let mut lengths = exact(pixels);
     for fault in faults {
         match fault {
-            Fault::Size => (player.width, player.height) = wrong_size(rng),
+            Fault::Size => (player.width, player.height) = wrong_size(rng, whole.header.format),
+            Fault::Format => player.format = rng.pick(&FORMATS),
             Fault::Slices => lengths = short_lengths(rng, pixels),
             Fault::Place => player.place = rng.pick(&[whole.bytes.len() as u64 + 1, 1 << 32, u64::MAX]),
             Fault::Number => player.number = rng.pick(&[0, player.frames + 2, u64::MAX]),
         }
     }
-    TickCase { player, bytes: whole.bytes.clone(), now: due(&player), shown: any_state(rng, lengths) }
+    TickCase { player: player.into(), bytes: whole.bytes.clone(), now: due(&player), shown: any_state(rng, lengths) }
 }
 
 /// Each of the two slices, one at a time, shorter or longer than needed.
-pub fn slices(rng: &mut Rng, sink: Sink) {
-    let whole = lively(rng);
+pub fn slices(rng: &mut Rng, format: Format, sink: Sink) {
+    let whole = lively(rng, format);
     let player = whole.any_standing(rng);
     let state = &whole.states[((player.number - 1) % whole.frames()) as usize];
     let right = exact(state.picture.len());
@@ -113,6 +120,7 @@ pub fn slices(rng: &mut Rng, sink: Sink) {
     let palettes = lengths(PALETTE_BYTES).map(|palette| Lengths { palette, ..right });
     for lengths in pictures.into_iter().chain(palettes) {
         let shown = lend(rng, state, lengths);
-        sink(Case::Tick(TickCase { player, bytes: whole.bytes.clone(), now: due(&player), shown }));
+        let (player, now) = (player.into(), due(&player));
+        sink(Case::Tick(TickCase { player, bytes: whole.bytes.clone(), now, shown }));
     }
 }

@@ -4,21 +4,20 @@ use super::built_reel::Built;
 use super::loose_reel::{other_chunk, Loose};
 use super::make::{check_of, close_of};
 use crate::damage::{changed_values, set_size, set_word};
-use crate::model::{FRAME_TYPE, PREFIX_TYPE};
+use crate::model::{Format, FRAME_TYPE, PREFIX_TYPE};
 use crate::rng::Rng;
 use crate::runner::inputs::Sink;
-use crate::sizes::small_size;
 use crate::write_cases::ample_room;
 use flic_boundary::Reel;
 
-/// Each byte of an open reel, the header's too, changed to several values.
-pub fn open_bytes(rng: &mut Rng, sink: Sink) {
-    let (width, height) = small_size(rng);
+/// Each byte of an open reel, the header's too, changed to several values; of an FLI some.
+pub fn open_bytes(rng: &mut Rng, format: Format, sink: Sink) {
     let frames = rng.between(1, 3);
-    let built = Built::in_order(rng, width, height, frames);
-    let room = ample_room(width * height);
+    let built = Built::small(rng, format, frames);
+    let room = ample_room(built.pixels());
     let whole = built.with_room(rng, room);
-    for at in 0..built.bytes.len().min(500) {
+    let step = if format == Format::Flc { 1 } else { rng.between(5, 9) };
+    for at in (0..built.bytes.len().min(500)).step_by(step) {
         for value in changed_values(whole[at], false) {
             let mut changed = whole.clone();
             changed[at] = value;
@@ -28,8 +27,8 @@ pub fn open_bytes(rng: &mut Rng, sink: Sink) {
 }
 
 /// Frames that were cut, lengthened, retyped, or have others between them; the record may follow or stay.
-pub fn frame_edges(rng: &mut Rng, sink: Sink) {
-    let mut loose = Loose::small(rng);
+pub fn frame_edges(rng: &mut Rng, format: Format, sink: Sink) {
+    let mut loose = Loose::small(rng, format);
     loose.chunks.pop();
     let before = loose.record();
     alter(rng, &mut loose);

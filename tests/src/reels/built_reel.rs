@@ -1,11 +1,12 @@
 //! A reel that the model opened and added to, of which every call is known.
 
 use super::make::{check_of, close_of, play};
-use crate::model::{FILE_HEADER, MODEL};
+use crate::fli_pictures::change_rows;
+use crate::model::{Format, FILE_HEADER, MODEL};
 use crate::rng::Rng;
-use crate::runner::calls::{AddCase, OpenCase};
+use crate::runner::calls::{AddCase, OpenCase, OpenFliCase};
 use crate::runner::inputs::{Case, PlayCase, Sink};
-use crate::sizes::long_or_exact;
+use crate::sizes::{long_or_exact, size_of, small_size};
 use crate::states::{lend, next_state, State};
 use crate::write_cases::ample_room;
 use flic_boundary::Reel;
@@ -19,8 +20,10 @@ pub struct Added {
 
 /// A reel that was opened and added to, and not closed yet.
 pub struct Built {
+    pub format: Format,
     pub width: usize,
     pub height: usize,
+    /// The delay that it was opened with: milliseconds, or of an FLI jiffies.
     pub speed: u32,
     pub adds: Vec<Added>,
     /// The reel up to its record's end.
@@ -28,22 +31,43 @@ pub struct Built {
 }
 
 impl Built {
-    pub fn opened(rng: &mut Rng, width: usize, height: usize) -> Built {
-        let speed = rng.draw() as u32;
+    pub fn opened(rng: &mut Rng, format: Format, width: usize, height: usize) -> Built {
+        let delay = rng.draw() as u32;
         let mut bytes = rng.bytes(FILE_HEADER);
-        MODEL
-            .open_reel(width as u64, height as u64, speed, &mut bytes)
-            .answer
-            .expect("an open of a right size is done");
-        Built { width, height, speed, adds: Vec::new(), bytes }
+        let (speed, outcome) = match format {
+            Format::Flc => (delay, MODEL.open_reel(width as u64, height as u64, delay, &mut bytes)),
+            Format::Fli => {
+                let jiffies = delay % 65_536;
+                (jiffies, MODEL.open_fli(width as u64, height as u64, jiffies, &mut bytes))
+            }
+        };
+        outcome.answer.expect("an open of a right size is done");
+        Built { format, width, height, speed, adds: Vec::new(), bytes }
     }
 
     /// A reel whose adds were each handed the state that the one before asked for.
-    pub fn in_order(rng: &mut Rng, width: usize, height: usize, frames: usize) -> Built {
-        let mut built = Built::opened(rng, width, height);
+    pub fn in_order(rng: &mut Rng, format: Format, width: usize, height: usize, frames: usize) -> Built {
+        let mut built = Built::opened(rng, format, width, height);
         let mut shown = State::blank(width * height);
         for _ in 0..frames {
-            let next = next_state(rng, &shown, width, height);
+            let next = next_state(rng, format, &shown, width, height);
+            built.add(shown, next.clone());
+            shown = next;
+        }
+        built
+    }
+
+    /// A reel of few bytes: of an FLI some rows are changed in each frame.
+    pub fn small(rng: &mut Rng, format: Format, frames: usize) -> Built {
+        let (width, height) = size_of(rng, format, small_size);
+        if format == Format::Flc {
+            return Built::in_order(rng, format, width, height, frames);
+        }
+        let mut built = Built::opened(rng, format, width, height);
+        let mut shown = State::blank(width * height);
+        for _ in 0..frames {
+            let mut next = shown.clone();
+            change_rows(rng, &mut next.picture);
             built.add(shown, next.clone());
             shown = next;
         }
@@ -68,7 +92,7 @@ impl Built {
     pub fn record(&self, frames: usize) -> Reel {
         let end = self.adds.get(frames).map_or(self.bytes.len(), |add| add.place);
         let (width, height) = (self.width as u64, self.height as u64);
-        Reel { width, height, frames: frames as u64, end: end as u64, closed: 0 }
+        Reel { width, height, frames: frames as u64, end: end as u64, closed: 0, format: self.format.number() }
     }
 
     /// The record after the last add.
@@ -95,7 +119,11 @@ impl Built {
     pub fn open_case(&self, rng: &mut Rng) -> Case {
         let length = some_excess(rng, FILE_HEADER);
         let bytes = rng.bytes(length);
-        Case::Open(OpenCase { width: self.width as u64, height: self.height as u64, speed: self.speed, bytes })
+        let (width, height, delay) = (self.width as u64, self.height as u64, self.speed);
+        match self.format {
+            Format::Flc => Case::Open(OpenCase { width, height, speed: delay, bytes }),
+            Format::Fli => Case::OpenFli(OpenFliCase { width, height, jiffies: delay, bytes }),
+        }
     }
 
     /// The add number `which`, as it was accepted, into bytes that have `room` after the record's end.
@@ -127,7 +155,8 @@ impl Built {
         let lent = [bytes.clone(), rng.bytes(after)].concat();
         sink(close_of(rng, record, lent.clone()));
         sink(check_of(rng, lent));
-        sink(Case::Play(PlayCase { bytes, width: self.width, height: self.height, states }));
+        let Built { format, width, height, .. } = *self;
+        sink(Case::Play(PlayCase { bytes, format, width, height, states }));
     }
 
     /// The states that the adds asked for.
@@ -140,7 +169,7 @@ impl Built {
         let mut shown = State::blank(self.pixels());
         let mut states = Vec::new();
         for add in &self.adds {
-            play(self.width, self.height, &mut shown, &self.bytes[add.place..]);
+            play(self.format, self.width, self.height, &mut shown, &self.bytes[add.place..]);
             states.push(shown.clone());
         }
         states

@@ -2,17 +2,18 @@
 
 use super::loose_reel::{any_frame, chunk_of, other_chunk, Loose};
 use super::make::{check_of, close_of};
-use crate::cases::spare_frames;
+use crate::cases::{foreign_frames, spare_frames};
 use crate::damage::{self, set_size, set_word, wrong_size_field};
-use crate::model::{field, kind, FILE_HEADER, FRAME_TYPE, PREFIX_TYPE};
+use crate::frames::faulty_fli_frames;
+use crate::model::{field, kind, Format, FILE_HEADER, FRAME_TYPE, PREFIX_TYPE};
 use crate::rng::Rng;
 use crate::runner::inputs::Sink;
-use crate::sizes::{right_size, small_size};
+use crate::sizes::{right_size, size_of, small_size};
 use crate::write_cases::ample_room;
 
 /// Right reels with chunks between the frames that are stepped over, and anything after the ring.
-pub fn others(rng: &mut Rng, sink: Sink) {
-    let mut loose = Loose::small(rng);
+pub fn others(rng: &mut Rng, format: Format, sink: Sink) {
+    let mut loose = Loose::small(rng, format);
     loose.add_others(rng);
     let length = rng.pick(&[0, 0, 1, 5, 40]);
     loose.after = rng.bytes(length);
@@ -22,8 +23,8 @@ pub fn others(rng: &mut Rng, sink: Sink) {
 }
 
 /// Wrong sizes in each top-level header of a reel, frames and others.
-pub fn chunk_sizes(rng: &mut Rng, sink: Sink) {
-    let mut loose = Loose::small(rng);
+pub fn chunk_sizes(rng: &mut Rng, format: Format, sink: Sink) {
+    let mut loose = Loose::small(rng, format);
     loose.add_others(rng);
     let length = rng.pick(&[0, 20]);
     loose.after = rng.bytes(length);
@@ -46,8 +47,8 @@ pub fn chunk_sizes(rng: &mut Rng, sink: Sink) {
 
 /// 0 to 20 bytes where a chunk should begin, of a frame and of others, with every size around the limits, checked and
 /// closed.
-pub fn left_over(rng: &mut Rng, sink: Sink) {
-    let mut loose = Loose::small(rng);
+pub fn left_over(rng: &mut Rng, format: Format, sink: Sink) {
+    let mut loose = Loose::small(rng, format);
     let kept = rng.below(loose.chunks.len());
     loose.chunks.truncate(kept);
     if rng.once_in(2) {
@@ -72,8 +73,8 @@ pub fn left_over(rng: &mut Rng, sink: Sink) {
 }
 
 /// A frame with something wrong in it, most of the time.
-pub fn wrong_frame(rng: &mut Rng, width: usize, height: usize) -> Vec<u8> {
-    let whole = any_frame(rng, width, height, None);
+pub fn wrong_frame(rng: &mut Rng, format: Format, width: usize, height: usize) -> Vec<u8> {
+    let whole = any_frame(rng, format, width, height, None);
     match rng.below(8) {
         0 => damage::wrong_header(&whole, rng),
         1 => damage::wrong_bytes(&whole, rng),
@@ -84,18 +85,19 @@ pub fn wrong_frame(rng: &mut Rng, width: usize, height: usize) -> Vec<u8> {
         }
         _ => {
             let slips = rng.pick(&[6, 20, 80]);
-            any_frame(rng, width, height, Some(slips)).bytes()
+            any_frame(rng, format, width, height, Some(slips)).bytes()
         }
     }
 }
 
 /// A good start, then a frame or ring that is damaged: checked, and closed.
-pub fn damaged(rng: &mut Rng, sink: Sink) {
-    let (width, height) = if rng.once_in(8) { right_size(rng) } else { small_size(rng) };
+pub fn damaged(rng: &mut Rng, format: Format, sink: Sink) {
+    let of_flc = if rng.once_in(8) { right_size } else { small_size };
+    let (width, height) = size_of(rng, format, of_flc);
     let frames = rng.between(1, 4);
-    let mut loose = Loose::ringed(rng, width, height, frames);
+    let mut loose = Loose::ringed(rng, format, width, height, frames);
     let which = rng.below(loose.chunks.len());
-    loose.chunks[which] = wrong_frame(rng, width, height);
+    loose.chunks[which] = wrong_frame(rng, format, width, height);
     sink(check_of(rng, loose.bytes()));
     if rng.once_in(2) {
         loose.chunks.pop();
@@ -108,9 +110,9 @@ pub fn damaged(rng: &mut Rng, sink: Sink) {
 }
 
 /// Spare bytes behind bodies of every kind, in one of the frames or in the ring: checked, and closed.
-pub fn spare(rng: &mut Rng, sink: Sink) {
-    let whole = Loose::small(rng);
-    for frame in spare_frames(rng, whole.width, whole.height) {
+pub fn spare(rng: &mut Rng, format: Format, sink: Sink) {
+    let whole = Loose::small(rng, format);
+    for frame in spare_frames(rng, format, whole.width, whole.height) {
         let mut loose = whole.clone();
         let which = rng.below(loose.chunks.len());
         loose.chunks[which] = frame.bytes();
@@ -122,9 +124,37 @@ pub fn spare(rng: &mut Rng, sink: Sink) {
     }
 }
 
+/// Each fault of a frame of an FLI, in one of the frames or in the ring: checked, and closed.
+pub fn fli_faults(rng: &mut Rng, format: Format, sink: Sink) {
+    let whole = Loose::small(rng, format);
+    for (_, frame) in faulty_fli_frames() {
+        let mut loose = whole.clone();
+        let which = rng.below(loose.chunks.len());
+        loose.chunks[which] = frame;
+        sink(check_of(rng, loose.bytes()));
+        loose.frames += 1;
+        sink(close_of(rng, loose.record(), loose.open_bytes()));
+    }
+}
+
+/// Frames with a kind that an FLI may not hold, in one of the frames or in the ring: checked, and closed.
+pub fn foreign(rng: &mut Rng, format: Format, sink: Sink) {
+    let whole = Loose::small(rng, format);
+    for frame in foreign_frames(rng) {
+        if !rng.once_in(8) {
+            continue;
+        }
+        let mut loose = whole.clone();
+        let which = rng.below(loose.chunks.len());
+        loose.chunks[which] = frame;
+        sink(check_of(rng, loose.bytes()));
+        sink(close_of(rng, loose.record(), loose.open_bytes()));
+    }
+}
+
 /// Bytes of chance after a right header, checked and closed.
-pub fn chance(rng: &mut Rng, sink: Sink) {
-    let mut loose = Loose::small(rng);
+pub fn chance(rng: &mut Rng, format: Format, sink: Sink) {
+    let mut loose = Loose::small(rng, format);
     let kept = rng.below(loose.chunks.len());
     loose.chunks.truncate(kept);
     loose.chunks.push(damage::chance_bytes(rng));
@@ -133,7 +163,7 @@ pub fn chance(rng: &mut Rng, sink: Sink) {
     let length = rng.below(2 * FILE_HEADER);
     let mut bytes = rng.bytes(length);
     if length >= FILE_HEADER {
-        set_word(&mut bytes, field::MAGIC, 0xAF12);
+        set_word(&mut bytes, field::MAGIC, format.magic());
         set_size(&mut bytes, field::SIZE, length as u32);
     }
     sink(check_of(rng, bytes));

@@ -1,11 +1,11 @@
 //! The family of lent slices: each picture and palette of a call, one at a time, shorter or longer than needed.
 
 use super::built_reel::Built;
-use crate::model::PALETTE_BYTES;
+use crate::model::{Format, PALETTE_BYTES};
 use crate::rng::Rng;
 use crate::runner::calls::{AddCase, CheckCase, CloseCase};
 use crate::runner::inputs::{Case, Sink};
-use crate::sizes::{exact, small_size};
+use crate::sizes::exact;
 use crate::states::{any_state, State};
 use crate::write_cases::ample_room;
 
@@ -21,10 +21,10 @@ fn pairs(rng: &mut Rng, pixels: usize, slice: usize, length: usize) -> (State, S
 }
 
 /// A check, an add and a close for each slice and length.
-pub fn slices(rng: &mut Rng, sink: Sink) {
-    let (width, height) = small_size(rng);
+pub fn slices(rng: &mut Rng, format: Format, sink: Sink) {
     let frames = rng.between(1, 3);
-    let built = Built::in_order(rng, width, height, frames);
+    let built = Built::small(rng, format, frames);
+    let (width, height) = (built.width, built.height);
     let (reel, (_, closed)) = (built.last_record(), built.closed());
     let open = built.with_room(rng, ample_room(width * height));
     for slice in 0..4 {

@@ -1,6 +1,6 @@
 //! What the families of reels share: sizes, pairs, and calls on bytes that are at hand.
 
-use crate::model::{accepted_size, field, word_at, FILE_HEADER, MODEL};
+use crate::model::{accepted_size, field, word_at, Format, FILE_HEADER, MODEL};
 use crate::rng::Rng;
 use crate::runner::calls::{AddCase, CheckCase, CloseCase};
 use crate::runner::inputs::Case;
@@ -25,7 +25,7 @@ pub fn pair(rng: &mut Rng, pixels: usize) -> State {
 
 /// How many pixels a size asks for, if it is in range.
 pub fn pixels_of(width: u64, height: u64) -> usize {
-    accepted_size(width, height).map_or(1, |(width, height)| width * height)
+    accepted_size(Format::Flc, width, height).map_or(1, |(width, height)| width * height)
 }
 
 /// A check of these bytes, with pairs that hold the size that their header tells.
@@ -51,6 +51,7 @@ pub fn add_of(rng: &mut Rng, reel: Reel, bytes: Vec<u8>) -> Case {
 }
 
 /// Plays a frame that is right.
-pub fn play(width: usize, height: usize, shown: &mut State, frame: &[u8]) {
-    MODEL.read_frame(frame, width as u64, height as u64, shown.work()).expect("this frame is right");
+pub fn play(format: Format, width: usize, height: usize, shown: &mut State, frame: &[u8]) {
+    let answer = MODEL.read_frame(frame, format.number(), width as u64, height as u64, shown.work());
+    answer.expect("this frame is right");
 }

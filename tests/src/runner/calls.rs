@@ -1,10 +1,10 @@
 //! The entry points, a row each: what a call is handed and lent, how it is made of the library and of the model, and what
 //! a run must meet.
 
-use super::lent::{bytes_of, values_in, Lent};
+use super::lent::{bytes_of, values_in, Lent, PlayerIn, Record};
 use super::told::Told;
-use crate::frames::KINDS;
-use crate::model::{kind, Model};
+use crate::frames::{FLI_KINDS, KINDS};
+use crate::model::{field, kind, word_at, Format, Model, MODEL};
 use crate::states::State;
 use flic_boundary::{self as library, Pair, PairMut, Player, Reel};
 use std::slice;
@@ -22,9 +22,30 @@ pub struct Row {
     pub aligned: &'static [usize],
     /// The numbers that a run must meet, 0 being done.
     pub numbers: &'static [u32],
-    /// The kinds that a run must meet in frames that were done, and what is said of these.
+    /// Those that it must meet of FLI besides; none where a call has to do with FLC alone, or with neither.
+    pub in_fli: &'static [u32],
+    /// The kinds that a run must meet in frames that were done, in those of FLI besides, and what is said of these.
     pub kinds: &'static [u16],
+    pub kinds_in_fli: &'static [u16],
     pub verb: &'static str,
+}
+
+impl Row {
+    /// The numbers that a run must meet of a format.
+    pub fn numbers_of(&self, format: Format) -> &'static [u32] {
+        match format {
+            Format::Flc => self.numbers,
+            Format::Fli => self.in_fli,
+        }
+    }
+
+    /// The kinds that a run must meet of a format.
+    pub fn kinds_of(&self, format: Format) -> &'static [u16] {
+        match format {
+            Format::Flc => self.kinds,
+            Format::Fli => self.kinds_in_fli,
+        }
+    }
 }
 
 /// One call.
@@ -34,6 +55,11 @@ pub trait Call {
     /// What is handed over besides slices, in words.
     fn handed(&self) -> String {
         String::new()
+    }
+
+    /// The format that the call is told, or that of the file or record it is handed.
+    fn format(&self) -> Format {
+        Format::Flc
     }
 
     /// What the slices hold before the call.
@@ -74,7 +100,7 @@ macro_rules! made {
 }
 
 /// The rows, in the order in which the damage test makes its calls.
-pub const ROWS: [&Row; 18] = [
+pub const ROWS: [&Row; 21] = [
     &ReadCase::ROW,
     &WriteCase::ROW,
     &RewriteCase::ROW,
@@ -93,11 +119,32 @@ pub const ROWS: [&Row; 18] = [
     &ReplayCase::ROW,
     &TileMapCase::ROW,
     &MarkedCase::ROW,
+    &OpenFliCase::ROW,
+    &MillisecondsCase::ROW,
+    &JiffiesCase::ROW,
 ];
 
 /// A row of which no kinds are counted, and that lends bytes alone.
-pub const PLAIN: Row =
-    Row { function: "", name: "", unit: "", lends: &[], aligned: &[], numbers: &[], kinds: &[], verb: "" };
+pub const PLAIN: Row = Row {
+    function: "",
+    name: "",
+    unit: "",
+    lends: &[],
+    aligned: &[],
+    numbers: &[],
+    in_fli: &[],
+    kinds: &[],
+    kinds_in_fli: &[],
+    verb: "",
+};
+
+/// The format of a file by its magic, where it has that of an FLI.
+pub fn format_of(file: &[u8]) -> Format {
+    match file.get(field::MAGIC..field::MAGIC + 2) {
+        Some(magic) if word_at(magic, 0) == Format::Fli.magic() => Format::Fli,
+        _ => Format::Flc,
+    }
+}
 
 fn pair<'a>(picture: &'a [u8], palette: &'a [u8]) -> Pair<'a> {
     Pair { picture, palette }
@@ -111,6 +158,7 @@ fn pair_mut<'a>(picture: &'a mut [u8], palette: &'a mut [u8]) -> PairMut<'a> {
 #[derive(Clone, Debug, PartialEq, Eq)]
 pub struct ReadCase {
     pub bytes: Vec<u8>,
+    pub format: u32,
     pub width: u64,
     pub height: u64,
     pub shown: State,
@@ -123,17 +171,27 @@ impl ReadCase {
         unit: "frames",
         lends: &["frame", "picture", "palette"],
         numbers: &[0, 1, 2, 4, 5, 6, 7, 8, 9, 10, 11, 12, 13, 19],
+        in_fli: &[0, 1, 2, 4, 5, 6, 7, 8, 9, 10, 12, 13, 19, 20],
         kinds: &KINDS,
+        kinds_in_fli: &FLI_KINDS,
         verb: "accepted",
         ..PLAIN
     };
 }
 
 impl Call for ReadCase {
-    made!(self, [bytes, picture, palette], read_frame(bytes, self.width, self.height, pair_mut(picture, palette)));
+    made!(
+        self,
+        [bytes, picture, palette],
+        read_frame(bytes, self.format, self.width, self.height, pair_mut(picture, palette))
+    );
 
     fn handed(&self) -> String {
-        format!("{} by {}", self.width, self.height)
+        format!("format {}, {} by {}", self.format, self.width, self.height)
+    }
+
+    fn format(&self) -> Format {
+        MODEL.formats.told(self.format)
     }
 
     fn slices(&self) -> Vec<&[u8]> {
@@ -152,6 +210,7 @@ impl Call for ReadCase {
 /// flic_write_frame.
 #[derive(Clone, Debug, PartialEq, Eq)]
 pub struct WriteCase {
+    pub format: u32,
     pub width: u64,
     pub height: u64,
     pub previous: State,
@@ -166,17 +225,23 @@ impl WriteCase {
         unit: "frames",
         lends: &["previous picture", "previous palette", "next picture", "next palette", "output"],
         numbers: &[0, 1, 2, 3],
+        in_fli: &[0, 1, 2, 3],
         kinds: &[kind::COLOR256, kind::SS2, kind::BLACK, kind::BRUN, kind::COPY],
+        kinds_in_fli: &[kind::COLOR256, kind::LC, kind::BLACK, kind::BRUN, kind::COPY],
         verb: "written",
         ..PLAIN
     };
 }
 
 impl Call for WriteCase {
-    made!(self, [p, q, n, m, out], write_frame(self.width, self.height, pair(p, q), pair(n, m), out));
+    made!(self, [p, q, n, m, out], write_frame(self.format, self.width, self.height, pair(p, q), pair(n, m), out));
 
     fn handed(&self) -> String {
-        format!("{} by {}", self.width, self.height)
+        format!("format {}, {} by {}", self.format, self.width, self.height)
+    }
+
+    fn format(&self) -> Format {
+        MODEL.formats.told(self.format)
     }
 
     fn slices(&self) -> Vec<&[u8]> {
@@ -193,6 +258,7 @@ impl Call for WriteCase {
 #[derive(Clone, Debug, PartialEq, Eq)]
 pub struct RewriteCase {
     pub bytes: Vec<u8>,
+    pub format: u32,
     pub width: u64,
     pub height: u64,
     pub previous: State,
@@ -207,7 +273,9 @@ impl RewriteCase {
         unit: "frames",
         lends: &["frame", "previous picture", "previous palette", "working picture", "working palette", "output"],
         numbers: &[0, 1, 2, 3, 4, 5, 6, 7, 8, 9, 10, 11, 12, 13, 19],
+        in_fli: &[0, 1, 2, 3, 4, 5, 6, 7, 8, 9, 10, 12, 13, 19, 20],
         kinds: &KINDS,
+        kinds_in_fli: &FLI_KINDS,
         verb: "rewritten",
         ..PLAIN
     };
@@ -217,11 +285,15 @@ impl Call for RewriteCase {
     made!(
         self,
         [bytes, p, q, w, v, out],
-        rewrite_frame(bytes, self.width, self.height, pair(p, q), pair_mut(w, v), out)
+        rewrite_frame(bytes, self.format, self.width, self.height, pair(p, q), pair_mut(w, v), out)
     );
 
     fn handed(&self) -> String {
-        format!("{} by {}", self.width, self.height)
+        format!("format {}, {} by {}", self.format, self.width, self.height)
+    }
+
+    fn format(&self) -> Format {
+        MODEL.formats.told(self.format)
     }
 
     fn slices(&self) -> Vec<&[u8]> {
@@ -243,6 +315,8 @@ const REEL_AND_PAIRS: &[&str] = &["reel", "first picture", "first palette", "sec
 
 /// What a whole-reel check can answer.
 const OF_A_CHECK: &[u32] = &[0, 1, 2, 4, 5, 6, 7, 8, 9, 10, 11, 12, 13, 14, 15, 16, 19];
+/// And of an FLI, which has a magic that is right.
+const OF_AN_FLI_CHECK: &[u32] = &[0, 1, 2, 4, 6, 7, 8, 9, 10, 12, 13, 14, 15, 16, 19, 20];
 
 /// flic_check_reel.
 #[derive(Clone, Debug, PartialEq, Eq)]
@@ -259,12 +333,17 @@ impl CheckCase {
         unit: "reels",
         lends: REEL_AND_PAIRS,
         numbers: OF_A_CHECK,
+        in_fli: OF_AN_FLI_CHECK,
         ..PLAIN
     };
 }
 
 impl Call for CheckCase {
     made!(self, [bytes, p, q, n, m], check_reel(bytes, pair_mut(p, q), pair_mut(n, m)));
+
+    fn format(&self) -> Format {
+        format_of(&self.bytes)
+    }
 
     fn slices(&self) -> Vec<&[u8]> {
         let (first, second) = (&self.first, &self.second);
@@ -302,6 +381,38 @@ impl Call for OpenCase {
     }
 }
 
+/// flic_open_fli.
+#[derive(Clone, Debug, PartialEq, Eq)]
+pub struct OpenFliCase {
+    pub width: u64,
+    pub height: u64,
+    pub jiffies: u32,
+    pub bytes: Vec<u8>,
+}
+
+impl OpenFliCase {
+    pub const ROW: Row = Row {
+        function: "open_fli",
+        name: "open of an FLI",
+        unit: "reels",
+        lends: &["reel"],
+        numbers: &[0, 2, 3, 14],
+        ..PLAIN
+    };
+}
+
+impl Call for OpenFliCase {
+    made!(self, [bytes], open_fli(self.width, self.height, self.jiffies, bytes));
+
+    fn handed(&self) -> String {
+        format!("{} by {}, {} jiffies", self.width, self.height, self.jiffies)
+    }
+
+    fn slices(&self) -> Vec<&[u8]> {
+        vec![&self.bytes]
+    }
+}
+
 /// flic_add_frame.
 #[derive(Clone, Debug, PartialEq, Eq)]
 pub struct AddCase {
@@ -318,6 +429,7 @@ impl AddCase {
         unit: "frames",
         lends: &["reel", "showing picture", "showing palette", "next picture", "next palette"],
         numbers: &[0, 1, 2, 3, 4, 18],
+        in_fli: &[0, 1, 2, 3, 4, 18],
         ..PLAIN
     };
 }
@@ -327,6 +439,10 @@ impl Call for AddCase {
 
     fn handed(&self) -> String {
         format!("{:?}", self.reel)
+    }
+
+    fn format(&self) -> Format {
+        MODEL.formats.told(self.reel.format)
     }
 
     fn slices(&self) -> Vec<&[u8]> {
@@ -351,6 +467,7 @@ impl CloseCase {
         unit: "reels",
         lends: REEL_AND_PAIRS,
         numbers: &[0, 1, 2, 3, 4, 5, 6, 7, 8, 9, 10, 11, 12, 13, 18, 19],
+        in_fli: &[0, 1, 2, 3, 4, 5, 6, 7, 8, 9, 10, 12, 13, 18, 19, 20],
         ..PLAIN
     };
 }
@@ -360,6 +477,10 @@ impl Call for CloseCase {
 
     fn handed(&self) -> String {
         format!("{:?}", self.reel)
+    }
+
+    fn format(&self) -> Format {
+        MODEL.formats.told(self.reel.format)
     }
 
     fn slices(&self) -> Vec<&[u8]> {
@@ -383,12 +504,17 @@ impl CheckTrailerCase {
         unit: "files",
         lends: &["file"],
         numbers: &[0, 2, 4, 5, 6, 14, 15, 17],
+        in_fli: &[4, 5],
         ..PLAIN
     };
 }
 
 impl Call for CheckTrailerCase {
     made!(self, [bytes], check_trailer(bytes));
+
+    fn format(&self) -> Format {
+        format_of(&self.0)
+    }
 
     fn slices(&self) -> Vec<&[u8]> {
         vec![&self.0]
@@ -410,12 +536,17 @@ impl WriteTrailerCase {
         unit: "files",
         lends: &["file"],
         numbers: &[0, 2, 3, 4, 5, 6, 14, 15],
+        in_fli: &[4, 5],
         ..PLAIN
     };
 }
 
 impl Call for WriteTrailerCase {
     made!(self, [bytes], write_trailer(bytes));
+
+    fn format(&self) -> Format {
+        format_of(&self.0)
+    }
 
     fn slices(&self) -> Vec<&[u8]> {
         vec![&self.0]
@@ -434,12 +565,23 @@ pub struct ListCase {
 }
 
 impl ListCase {
-    pub const ROW: Row =
-        Row { function: "list", name: "list", unit: "calls", lends: &["file", "output"], numbers: &[0, 3], ..PLAIN };
+    pub const ROW: Row = Row {
+        function: "list",
+        name: "list",
+        unit: "calls",
+        lends: &["file", "output"],
+        numbers: &[0, 3],
+        in_fli: &[0, 3],
+        ..PLAIN
+    };
 }
 
 impl Call for ListCase {
     made!(self, [bytes, out], list(bytes, out));
+
+    fn format(&self) -> Format {
+        format_of(&self.bytes)
+    }
 
     fn slices(&self) -> Vec<&[u8]> {
         vec![&self.bytes, &self.out]
@@ -457,12 +599,17 @@ impl HeaderCase {
         unit: "files",
         lends: &["file"],
         numbers: &[0, 2, 4, 5, 6, 14],
+        in_fli: &[0, 2, 4, 6, 14],
         ..PLAIN
     };
 }
 
 impl Call for HeaderCase {
     made!(self, [bytes], read_header(bytes));
+
+    fn format(&self) -> Format {
+        format_of(&self.0)
+    }
 
     fn slices(&self) -> Vec<&[u8]> {
         vec![&self.0]
@@ -542,6 +689,7 @@ impl StartCase {
         unit: "reels",
         lends: REEL_AND_PAIRS,
         numbers: OF_A_CHECK,
+        in_fli: OF_AN_FLI_CHECK,
         ..PLAIN
     };
 }
@@ -551,6 +699,10 @@ impl Call for StartCase {
 
     fn handed(&self) -> String {
         format!("at reading {}", self.now)
+    }
+
+    fn format(&self) -> Format {
+        format_of(&self.bytes)
     }
 
     fn slices(&self) -> Vec<&[u8]> {
@@ -566,7 +718,7 @@ impl Call for StartCase {
 /// flic_tick.
 #[derive(Clone, Debug, PartialEq, Eq)]
 pub struct TickCase {
-    pub player: Player,
+    pub player: Record,
     pub bytes: Vec<u8>,
     pub now: u32,
     pub shown: State,
@@ -580,15 +732,20 @@ impl TickCase {
         lends: &["player", "reel", "picture", "palette"],
         aligned: &[align_of::<Player>()],
         numbers: &[0, 1, 2, 4, 6, 7, 8, 9, 10, 11, 12, 13, 15, 19],
+        in_fli: &[0, 1, 2, 4, 6, 7, 8, 9, 10, 12, 13, 15, 19, 20],
         ..PLAIN
     };
 }
 
 impl Call for TickCase {
-    made!(self, [player, bytes, p, q], tick(player_in(player), bytes, self.now, pair_mut(p, q)));
+    made!(self, [player, bytes, p, q], tick(&mut PlayerIn::of(player), bytes, self.now, pair_mut(p, q)));
 
     fn handed(&self) -> String {
-        format!("{:?}, at reading {}", self.player, self.now)
+        format!("{:?}, at reading {}", Player::from(self.player), self.now)
+    }
+
+    fn format(&self) -> Format {
+        MODEL.formats.told(Player::from(self.player).format)
     }
 
     fn slices(&self) -> Vec<&[u8]> {
@@ -599,12 +756,6 @@ impl Call for TickCase {
     fn furthest(&self) -> u64 {
         self.bytes.len() as u64
     }
-}
-
-/// The record of a player where it is lent.
-pub fn player_in(bytes: &mut [u8]) -> &mut Player {
-    let [player] = values_in(bytes) else { panic!("one record is lent") };
-    player
 }
 
 /// flic_replay.
@@ -695,6 +846,53 @@ impl Call for MarkedCase {
 
     fn handed(&self) -> String {
         format!("{:#018x}", self.0)
+    }
+
+    fn slices(&self) -> Vec<&[u8]> {
+        Vec::new()
+    }
+}
+
+/// flic_in_milliseconds, of jiffies.
+#[derive(Clone, Debug, PartialEq, Eq)]
+pub struct MillisecondsCase(pub u32);
+
+impl MillisecondsCase {
+    pub const ROW: Row = Row {
+        function: "in_milliseconds",
+        name: "jiffies in milliseconds",
+        unit: "delays",
+        numbers: &[0, 14],
+        ..PLAIN
+    };
+}
+
+impl Call for MillisecondsCase {
+    made!(self, [], in_milliseconds(self.0));
+
+    fn handed(&self) -> String {
+        format!("{} jiffies", self.0)
+    }
+
+    fn slices(&self) -> Vec<&[u8]> {
+        Vec::new()
+    }
+}
+
+/// flic_in_jiffies, of milliseconds.
+#[derive(Clone, Debug, PartialEq, Eq)]
+pub struct JiffiesCase(pub u32);
+
+impl JiffiesCase {
+    pub const ROW: Row =
+        Row { function: "in_jiffies", name: "milliseconds in jiffies", unit: "delays", numbers: &[0, 14], ..PLAIN };
+}
+
+impl Call for JiffiesCase {
+    made!(self, [], in_jiffies(self.0));
+
+    fn handed(&self) -> String {
+        format!("{} milliseconds", self.0)
     }
 
     fn slices(&self) -> Vec<&[u8]> {

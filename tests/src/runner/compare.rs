@@ -1,13 +1,11 @@
 //! Compares one call with the model: the answer, every lent byte, and what stands around them; then the cases that are
 //! more than a call.
 
-use super::calls::{
-    player_in, Call, CheckCase, ReadCase, ReplayCase, RewriteCase, TickCase, WriteCase, WriteTrailerCase,
-};
+use super::calls::{Call, CheckCase, ReadCase, ReplayCase, RewriteCase, TickCase, WriteCase, WriteTrailerCase};
 use super::inputs::{AroundCase, Case, LiveCase, PlayCase};
-use super::lent::{bytes_of, Left, Lender, Lent};
+use super::lent::{bytes_of, Left, Lender, Lent, PlayerIn};
 use super::told::{Rest, Told};
-use crate::model::{field, size_at, Model, MODEL, PALETTE_BYTES};
+use crate::model::{field, size_at, Format, Model, FILE_HEADER, MODEL, PALETTE_BYTES};
 use crate::states::State;
 use flic_boundary::Player;
 
@@ -90,7 +88,8 @@ impl Comparer<'_> {
         let agreed = self.call(case, seed)?;
         if agreed.told.number == 0 {
             let bytes = agreed.left[4][..agreed.told.length() as usize].to_vec();
-            let written = ReadCase { bytes, width: case.width, height: case.height, shown: case.previous.clone() };
+            let WriteCase { format, width, height, .. } = *case;
+            let written = ReadCase { bytes, format, width, height, shown: case.previous.clone() };
             self.read_back(&written, &case.next, seed)?;
         }
         Ok(agreed)
@@ -102,7 +101,8 @@ impl Comparer<'_> {
         if once.told.number == 0 {
             let bytes = once.left[5][..once.told.length() as usize].to_vec();
             let again = RewriteCase { bytes: bytes.clone(), ..case.clone() };
-            let written = ReadCase { bytes, width: case.width, height: case.height, shown: case.previous.clone() };
+            let RewriteCase { format, width, height, .. } = *case;
+            let written = ReadCase { bytes, format, width, height, shown: case.previous.clone() };
             let work = State { picture: once.left[3].clone(), palette: once.left[4].clone() };
             self.read_back(&written, &work, seed)?;
             let twice = self.call(&again, seed)?;
@@ -128,18 +128,23 @@ impl Comparer<'_> {
     }
 
     /// Plays a reel three laps as a board does: from oframe1 to the ring, and from oframe2 to the ring in each further
-    /// lap.
+    /// lap; an FLI, which has no such fields, from behind its header and from the end of its first frame.
     fn play(&self, case: &PlayCase, seed: u64) -> Result<Agreed, Difference> {
         let frames = case.states.len();
         let mut shown = State::blank(case.width * case.height);
         for lap in 0..3 {
-            let (from, field) = if lap == 0 { (0, field::OFRAME1) } else { (1, field::OFRAME2) };
-            let mut place = size_at(&case.bytes, field);
+            let from = usize::from(lap > 0);
+            let mut place = match (case.format, lap) {
+                (Format::Flc, 0) => size_at(&case.bytes, field::OFRAME1),
+                (Format::Flc, _) => size_at(&case.bytes, field::OFRAME2),
+                (Format::Fli, 0) => FILE_HEADER,
+                (Format::Fli, _) => FILE_HEADER + size_at(&case.bytes, FILE_HEADER),
+            };
             for frame in from..=frames {
                 let chunk = &case.bytes[place..place + size_at(&case.bytes, place)];
                 let next = &case.states[frame % frames];
-                let (width, height) = (case.width as u64, case.height as u64);
-                let reading = ReadCase { bytes: chunk.to_vec(), width, height, shown };
+                let (format, width, height) = (case.format.number(), case.width as u64, case.height as u64);
+                let reading = ReadCase { bytes: chunk.to_vec(), format, width, height, shown };
                 self.read_back(&reading, next, seed).map_err(|difference| Difference {
                     what: format!("lap {}, frame {} at {place}: {}", lap + 1, frame + 1, difference.what),
                     ..difference
@@ -180,9 +185,9 @@ impl Comparer<'_> {
         let mut numbers = Vec::new();
         shows(&case.states, &player, &shown).map_err(|what| difference(started.told, started.told, what))?;
         for now in &case.readings {
-            let tick = TickCase { player, bytes: case.start.bytes.clone(), now: *now, shown };
+            let tick = TickCase { player: player.into(), bytes: case.start.bytes.clone(), now: *now, shown };
             let Agreed { told, mut left } = self.call(&tick, seed)?;
-            player = *player_in(&mut left[0]);
+            player = *PlayerIn::of(&mut left[0]);
             shown = State { palette: left.swap_remove(3), picture: left.swap_remove(2) };
             require(told.number == 0, || "a tick of a right player is refused".to_string())
                 .and_then(|()| shows(&case.states, &player, &shown))

@@ -1,16 +1,17 @@
 //! Document 01's numbers to try, and document 02's rules in numbers, as calls with their answers and all that they leave.
 
 use super::calls::{
-    AddCase, Call, CheckCase, CheckTrailerCase, CloseCase, HeaderCase, ListCase, MarkedCase, OpenCase, ReadCase,
-    ReplayCase, RewriteCase, StartCase, StepCase, TickCase, TileMapCase, WriteCase, WriteTrailerCase,
+    AddCase, Call, CheckCase, CheckTrailerCase, CloseCase, HeaderCase, JiffiesCase, ListCase, MarkedCase,
+    MillisecondsCase, OpenCase, OpenFliCase, ReadCase, ReplayCase, RewriteCase, StartCase, StepCase, TickCase,
+    TileMapCase, WriteCase, WriteTrailerCase,
 };
 use super::compare::Comparer;
-use super::lent::bytes_of;
+use super::lent::{bytes_of, Record};
 use super::program::hex;
 use super::told::{Rest, Told};
 use crate::frames::{frame_of, Chunk};
 use crate::model::{kind, PALETTE_BYTES};
-use crate::reels::examples::{blank_reel, zero_until_close, SPEED};
+use crate::reels::examples::{blank_fli, blank_reel, zero_until_close, JIFFIES, SPEED};
 use crate::states::State;
 use crate::trailers::examples::{BLANK_LISTING, BLANK_TRAILER};
 use flic_boundary::{Player, Reel, TileRow};
@@ -62,7 +63,8 @@ const FILL: u8 = 0x77;
 /// A frame read against FILL everywhere, which gives this picture.
 fn read_gives(name: &'static str, bytes: Vec<u8>, width: usize, picture: &[u8]) -> Example {
     let shown = State { picture: vec![FILL; picture.len()], palette: vec![FILL; PALETTE_BYTES] };
-    let case = ReadCase { bytes, width: width as u64, height: (picture.len() / width) as u64, shown };
+    let (width, height) = (width as u64, (picture.len() / width) as u64);
+    let case = ReadCase { bytes, format: 0, width, height, shown };
     Example::done(name, case, Rest::Nothing, &[(1, picture.to_vec())])
 }
 
@@ -184,7 +186,51 @@ pub fn of_reading() -> Vec<Example> {
     ];
     all.extend(of_animator());
     all.extend(of_spare_bytes());
+    all.extend(of_fli_reading());
     all
+}
+
+/// A frame that is read by a call that is told this format, against FILL everywhere at 320 by 200.
+fn told(name: &'static str, format: u32, chunks: &[&Chunk], picture: &[u8]) -> Example {
+    let shown = State { picture: vec![FILL; FLI_PIXELS], palette: vec![FILL; PALETTE_BYTES] };
+    let chunks: Vec<Chunk> = chunks.iter().copied().cloned().collect();
+    let case = ReadCase { bytes: frame_of(&chunks), format, width: 320, height: 200, shown };
+    Example::done(name, case, Rest::Nothing, &[(1, picture.to_vec())])
+}
+
+const FLI_PIXELS: usize = 320 * 200;
+
+/// Kinds 7 and 18 in an FLI (document 02, Req 06): "20, as the sub-chunk's header is accepted".
+fn of_fli_reading() -> Vec<Example> {
+    let of = |kind, body: &[u8]| Chunk { kind, body: body.to_vec() };
+    let (as_found, black) = (vec![FILL; FLI_PIXELS], vec![0; FLI_PIXELS]);
+    let (nothing, broken) = (of(kind::SS2, &[0, 0]), of(kind::SS2, &[1, 0, 0, 0x40]));
+    let (stamp, blacked, sloppy) = (of(kind::PSTAMP, &[]), of(kind::BLACK, &[]), of(kind::BLACK, &[9, 9]));
+    let row_of_two = of(kind::LC, &[199, 0, 1, 0, 2, 255, 0, 63, 0xFE, 4]);
+    let small = ReadCase {
+        bytes: frame_of(&[]),
+        format: 1,
+        width: 319,
+        height: 200,
+        shown: State { picture: Vec::new(), palette: Vec::new() },
+    };
+    let mut row = as_found.clone();
+    row[320 * 199 + 318..].fill(4);
+    vec![
+        told("kind 7 in an FLI", 1, &[&nothing], &as_found).refused(20, 16),
+        told("kind 18 in an FLI", 1, &[&stamp], &as_found).refused(20, 16),
+        told("kind 7 in an FLC", 0, &[&nothing], &as_found),
+        told("kind 18 in an FLC", 0, &[&stamp], &as_found),
+        told("a broken kind 7 in an FLI", 1, &[&broken], &as_found).refused(20, 16),
+        told("a broken kind 7 in an FLC", 0, &[&broken], &as_found).refused(11, 16),
+        told("kind 7 behind another in an FLI", 1, &[&blacked, &nothing], &as_found).refused(20, 22),
+        told("kind 18 behind spare bytes in an FLI", 1, &[&sloppy, &stamp], &as_found).refused(19, 16),
+        told("kind 18 before spare bytes in an FLI", 1, &[&stamp, &sloppy], &as_found).refused(20, 16),
+        told("an FLI told by another number than 1", u32::MAX, &[&nothing], &as_found).refused(20, 16),
+        told("BLACK in an FLI", 2, &[&blacked], &black),
+        told("kind 12 in an FLI", 1, &[&row_of_two], &row),
+        Example::done("an FLI of 319 by 200", small, Rest::Nothing, &[]).refused(2, 0),
+    ]
 }
 
 /// Two pictures and the sub-chunk of the frame between them, if there is one.
@@ -194,7 +240,7 @@ fn write_gives(name: &'static str, width: usize, previous: &[u8], next: &[u8], c
     let height = (next.picture.len() / width) as u64;
     let frame = frame_of(chunks);
     let left = [&frame[..], &out[frame.len()..]].concat();
-    let case = WriteCase { width: width as u64, height, previous, next, out };
+    let case = WriteCase { format: 0, width: width as u64, height, previous, next, out };
     Example::done(name, case, Rest::Length(frame.len() as u64), &[(4, left)])
 }
 
@@ -206,7 +252,7 @@ fn levels_rewritten() -> Example {
     let next = [&raised[..], &blank.palette[raised.len()..]].concat();
     let left = [&house[..], &out[house.len()..]].concat();
     let bytes = colours(kind::COLOR, &levels);
-    let case = RewriteCase { bytes, width: 1, height: 1, previous: blank.clone(), work: blank, out };
+    let case = RewriteCase { bytes, format: 0, width: 1, height: 1, previous: blank.clone(), work: blank, out };
     Example::done("all 64 levels, rewritten", case, Rest::Length(house.len() as u64), &[(4, next), (5, left)])
 }
 
@@ -220,7 +266,8 @@ fn animator_rewritten() -> Example {
     let out = vec![0xEE; 1000];
     let left = [&house[..], &out[house.len()..]].concat();
     let bytes = frame(kind::LC, &[0, 0, 1, 0, 1, 10, 0xFE, 0]);
-    let case = RewriteCase { bytes, width: 100, height: 1, previous: slope, work: State::blank(100), out };
+    let work = State::blank(100);
+    let case = RewriteCase { bytes, format: 0, width: 100, height: 1, previous: slope, work, out };
     Example::done("Animator: a delta, rewritten", case, Rest::Length(house.len() as u64), &[(3, next), (5, left)])
 }
 
@@ -229,7 +276,8 @@ fn padded_rewritten(name: &'static str, spare: usize) -> Example {
     let frame = |spare: usize| frame_of(&[Chunk { kind: kind::COPY, body: [&[1, 2][..], &vec![9; spare]].concat() }]);
     let (house, out, blank) = (frame(0), vec![0xEE; 100], State::blank(2));
     let left = [&house[..], &out[house.len()..]].concat();
-    let case = RewriteCase { bytes: frame(spare), width: 2, height: 1, previous: blank.clone(), work: blank, out };
+    let (bytes, previous) = (frame(spare), blank.clone());
+    let case = RewriteCase { bytes, format: 0, width: 2, height: 1, previous, work: blank, out };
     if spare > 1 {
         return Example::done(name, case, Rest::Length(0), &[]).refused(19, 16);
     }
@@ -271,6 +319,63 @@ pub fn of_writing() -> Vec<Example> {
         padded_rewritten("a byte of padding, rewritten", 1),
         padded_rewritten("two spare bytes, rewritten", 2),
     ]
+    .into_iter()
+    .chain(of_fli_writing())
+    .collect()
+}
+
+/// A pixel that the slope of the examples of FLI hasn't.
+const NEW: u8 = 252;
+
+/// A frame of an FLI in which so many pixels become NEW, from a column of a row on, on a slope that no full chunk packs: the
+/// body of its kind 12.
+fn fli_delta(name: &'static str, changed: &[(usize, usize, usize)], body: &[u8]) -> Example {
+    let slope: Vec<u8> = (0..FLI_PIXELS).map(|at| (at % 320 % 251) as u8).collect();
+    let mut next = slope.clone();
+    changed.iter().for_each(|(row, column, pixels)| next[row * 320 + column..][..*pixels].fill(NEW));
+    let state = |picture| State { picture, palette: vec![0; PALETTE_BYTES] };
+    let (previous, next, out) = (state(slope), state(next), vec![0xEE; 100]);
+    let frame = frame_of(&[Chunk { kind: kind::LC, body: body.to_vec() }]);
+    let left = [&frame[..], &out[frame.len()..]].concat();
+    let case = WriteCase { format: 1, width: 320, height: 200, previous, next, out };
+    Example::done(name, case, Rest::Length(frame.len() as u64), &[(4, left)])
+}
+
+/// Req 06's delta in bytes: first row, rows, and for each row its count and packets of skip, type and pixels.
+fn of_fli_writing() -> Vec<Example> {
+    vec![
+        fli_delta("FLI: the first pixel", &[(0, 0, 1)], &[0, 0, 1, 0, 1, 0, 1, NEW]),
+        fli_delta("FLI: a gap of 255", &[(0, 255, 1)], &[0, 0, 1, 0, 1, 255, 1, NEW]),
+        fli_delta("FLI: a gap of 256", &[(0, 256, 1)], &[0, 0, 1, 0, 2, 255, 0, 1, 1, NEW]),
+        fli_delta("FLI: a gap of 300", &[(0, 300, 1)], &[0, 0, 1, 0, 2, 255, 0, 45, 1, NEW]),
+        fli_delta("FLI: 2 equal pixels", &[(0, 0, 2)], &[0, 0, 1, 0, 1, 0, 2, NEW, NEW]),
+        fli_delta("FLI: 3 equal pixels", &[(0, 0, 3)], &[0, 0, 1, 0, 1, 0, 0xFD, NEW]),
+        fli_delta("FLI: 127 equal pixels", &[(0, 0, 127)], &[0, 0, 1, 0, 1, 0, 0x81, NEW]),
+        fli_delta("FLI: 128 equal pixels", &[(0, 0, 128)], &[0, 0, 1, 0, 2, 0, 0x81, NEW, 0, 1, NEW]),
+        fli_delta("FLI: 129 equal pixels", &[(0, 0, 129)], &[0, 0, 1, 0, 2, 0, 0x81, NEW, 0, 2, NEW, NEW]),
+        fli_delta("FLI: 130 equal pixels", &[(0, 0, 130)], &[0, 0, 1, 0, 2, 0, 0x81, NEW, 0, 0xFD, NEW]),
+        fli_delta("FLI: two stretches of a row", &[(7, 1, 1), (7, 3, 4)], &[7, 0, 1, 0, 2, 1, 1, NEW, 1, 0xFC, NEW]),
+        fli_delta(
+            "FLI: a row without change between two",
+            &[(3, 0, 1), (5, 319, 1)],
+            &[3, 0, 3, 0, 1, 0, 1, NEW, 0, 2, 255, 0, 64, 1, NEW],
+        ),
+        fli_delta("FLI: the last row alone", &[(199, 2, 1)], &[199, 0, 1, 0, 1, 2, 1, NEW]),
+        fli_rewritten(),
+    ]
+}
+
+/// A COPY that changes three pixels, rewritten in an FLI: kind 12.
+fn fli_rewritten() -> Example {
+    let (previous, mut next) = (State::blank(FLI_PIXELS), vec![0; FLI_PIXELS]);
+    next[320..323].fill(9);
+    let frame = |kind, body: &[u8]| frame_of(&[Chunk { kind, body: body.to_vec() }]);
+    let (bytes, house) = (frame(kind::COPY, &next), frame(kind::LC, &[1, 0, 1, 0, 1, 0, 0xFD, 9]));
+    let out = vec![0xEE; 100];
+    let left = [&house[..], &out[house.len()..]].concat();
+    let case =
+        RewriteCase { bytes, format: 1, width: 320, height: 200, previous: previous.clone(), work: previous, out };
+    Example::done("FLI: a COPY, rewritten", case, Rest::Length(house.len() as u64), &[(3, next), (5, left)])
 }
 
 /// A check of a reel of two frames that sets entry 0 by kind 4, back to black, and by kind 11 in its ring.
@@ -323,7 +428,7 @@ fn sloppy_close() -> Example {
     (0..128).filter(|at| zero_until_close(*at)).for_each(|at| open[at] = 0);
     let frame = frame_of(&[Chunk { kind: kind::COPY, body: vec![5, 9, 9] }]);
     let bytes = [&open[..], &frame, &[0xEE; 100]].concat();
-    let reel = Reel { width: 1, height: 1, frames: 1, end: 128 + frame.len() as u64, closed: 0 };
+    let reel = Reel { width: 1, height: 1, frames: 1, end: 128 + frame.len() as u64, closed: 0, format: 0 };
     let work = State { picture: vec![FILL], palette: vec![FILL; PALETTE_BYTES] };
     let case = CloseCase { reel, bytes, first: work.clone(), second: work };
     let blank = State::blank(1);
@@ -339,7 +444,7 @@ pub fn of_reels() -> Vec<Example> {
     let mut open = lent.clone();
     (0..128).for_each(|at| open[at] = if zero_until_close(at) { 0 } else { whole[at] });
     let added = [&open[..128], &whole[128..144], &lent[144..]].concat();
-    let record = |frames, end, closed| Reel { width: 1, height: 1, frames, end, closed };
+    let record = |frames, end, closed| Reel { width: 1, height: 1, frames, end, closed, format: 0 };
     let rest = |frames, end, closed| Rest::Record(record(frames, end, closed));
     let open_case = OpenCase { width: 1, height: 1, speed: SPEED, bytes: lent };
     let add = AddCase { reel: record(0, 128, 0), bytes: open.clone(), shown: blank(), next: blank() };
@@ -357,6 +462,61 @@ pub fn of_reels() -> Vec<Example> {
         padded_ring("a ring with two spare bytes", 2),
         sloppy_close(),
     ]
+    .into_iter()
+    .chain(of_fli_reels())
+    .chain(of_delays())
+    .collect()
+}
+
+/// The blank FLI: opened, added to, closed and checked; opens that are refused; flags of an FLC; a kind 7 in it.
+fn of_fli_reels() -> Vec<Example> {
+    let whole = blank_fli();
+    let blank = || State::blank(FLI_PIXELS);
+    let lent = vec![0xEE; whole.len()];
+    let mut open = [&whole[..128], &lent[128..]].concat();
+    [0..4, 6..8].into_iter().for_each(|field| open[field].fill(0));
+    let added = [&open[..128], &whole[128..144], &lent[144..]].concat();
+    let record = |frames, end, closed| Reel { width: 320, height: 200, frames, end, closed, format: 1 };
+    let rest = |frames, end, closed| Rest::Record(record(frames, end, closed));
+    let opened = |width, jiffies, bytes: &[u8]| OpenFliCase { width, height: 200, jiffies, bytes: bytes.to_vec() };
+    let refused = |name, case, number| Example::done(name, case, Rest::Record(Reel::default()), &[]).refused(number, 0);
+    let add = AddCase { reel: record(0, 128, 0), bytes: open.clone(), shown: blank(), next: blank() };
+    let close = CloseCase { reel: record(1, 144, 0), bytes: added.clone(), first: blank(), second: blank() };
+    let check = |bytes: &[u8]| CheckCase { bytes: bytes.to_vec(), first: blank(), second: blank() };
+    let (mut flags, mut anything) = (whole.clone(), whole.clone());
+    flags[14] = 3;
+    anything[18..128].fill(0xAB);
+    let foreign = frame_of(&[Chunk { kind: kind::SS2, body: vec![0, 0] }]);
+    let mut with_foreign = [&whole[..128], &foreign, &whole[144..]].concat();
+    with_foreign[0] += 8;
+    vec![
+        Example::done("FLI: opened", opened(320, JIFFIES, &lent), rest(0, 128, 0), &[(0, open)]),
+        refused("FLI: size before jiffies", opened(319, 65_536, &[]), 2),
+        refused("FLI: jiffies before room", opened(320, 65_536, &[]), 14),
+        refused("FLI: no room", opened(320, 65_535, &lent[..127]), 3),
+        Example::done("FLI: added to", add, rest(1, 144, 0), &[(0, added)]),
+        Example::done("FLI: closed", close, rest(1, 160, 1), &[(0, whole.clone())]),
+        Example::done("FLI: checked", check(&whole), Rest::Nothing, &[]),
+        Example::done("FLI: anything from byte 18 on", check(&anything), Rest::Nothing, &[]),
+        Example::done("FLI: flags of an FLC", check(&flags), Rest::Nothing, &[]).refused(14, 0),
+        Example::done("FLI: a kind 7", check(&with_foreign), Rest::Nothing, &[]).refused(20, 144),
+    ]
+}
+
+/// Jiffies as milliseconds, rounded down, and milliseconds as jiffies, rounded up.
+fn of_delays() -> Vec<Example> {
+    let milliseconds = [(0, 0), (1, 14), (5, 71), (7, 100), (70, 1_000), (65_535, 936_214)];
+    let jiffies =
+        [(0, 0), (1, 1), (14, 1), (15, 2), (71, 5), (72, 6), (100, 7), (1_000, 70), (1_001, 71), (936_214, 65_535)];
+    let long =
+        |jiffies| Example::done("jiffies too long", MillisecondsCase(jiffies), Rest::Delay(0), &[]).refused(14, 0);
+    let longer = |delay| Example::done("a delay too long", JiffiesCase(delay), Rest::Delay(0), &[]).refused(14, 0);
+    let of_jiffies =
+        milliseconds.map(|(from, to)| Example::done("jiffies", MillisecondsCase(from), Rest::Delay(to), &[]));
+    let of_milliseconds =
+        jiffies.map(|(from, to)| Example::done("milliseconds", JiffiesCase(from), Rest::Delay(to), &[]));
+    let refused = [long(65_536), long(u32::MAX), longer(936_215), longer(u32::MAX)];
+    of_jiffies.into_iter().chain(of_milliseconds).chain(refused).collect()
 }
 
 /// The blank reel's trailer and listing, its header and its frames.
@@ -366,7 +526,7 @@ pub fn of_trailers() -> Vec<Example> {
     let room = WriteTrailerCase([&reel[..], &[0xEE; BLANK_TRAILER.len()]].concat());
     let list = ListCase { bytes: whole.clone(), out: vec![0xEE; BLANK_LISTING.len()] };
     let text = BLANK_LISTING.as_bytes().to_vec();
-    let header = Rest::Header { width: 1, height: 1, frames: 1, size: 160, speed: SPEED };
+    let header = Rest::Header { width: 1, height: 1, frames: 1, size: 160, speed: SPEED, format: 0 };
     let step = |at, from, end| {
         Example::done("blank reel's frames", StepCase { bytes: reel.clone(), at }, Rest::Span { from, end }, &[])
     };
@@ -379,6 +539,24 @@ pub fn of_trailers() -> Vec<Example> {
         step(128, 128, 144),
         step(144, 144, 160),
         step(160, 0, 0).refused(15, 160),
+    ]
+    .into_iter()
+    .chain(of_fli_trailers())
+    .collect()
+}
+
+/// The blank FLI's header, which is told in milliseconds; its trailer and listing are refused 5.
+fn of_fli_trailers() -> Vec<Example> {
+    let fli = blank_fli();
+    let room = [&fli[..], &[0xEE; BLANK_TRAILER.len()]].concat();
+    let (text, out) = (b"refused 5 0\n", vec![0xEE; 20]);
+    let left = [&text[..], &out[text.len()..]].concat();
+    let header = Rest::Header { width: 320, height: 200, frames: 1, size: 160, speed: 71, format: 1 };
+    vec![
+        Example::done("FLI: header", HeaderCase(fli.clone()), header, &[]),
+        Example::done("FLI: no trailer", CheckTrailerCase(fli.clone()), Rest::Nothing, &[]).refused(5, 0),
+        Example::done("FLI: a trailer", WriteTrailerCase(room), Rest::Length(0), &[]).refused(5, 0),
+        Example::done("FLI: listing", ListCase { bytes: fli, out }, Rest::Length(text.len() as u64), &[(1, left)]),
     ]
 }
 
@@ -397,14 +575,16 @@ pub fn of_players() -> Vec<Example> {
         first_end: 144,
         speed: SPEED,
         last,
+        format: 0,
     };
     let blanked = [(1, picture.clone()), (2, palette.clone()), (3, picture), (4, palette)];
     let start = StartCase { bytes: reel.clone(), now: u32::MAX, first: filled(), second: filled() };
     let tick = |name, (number, last), now, event, (then, drawn)| {
-        let call = TickCase { player: player(number, last), bytes: reel.clone(), now, shown: filled() };
-        Example::done(name, call, Rest::Event(event), &[(0, bytes_of(&[player(then, drawn)]).to_vec())])
+        let call = TickCase { player: player(number, last).into(), bytes: reel.clone(), now, shown: filled() };
+        Example::done(name, call, Rest::Event(event), &[(0, bytes_of(&[Record::from(player(then, drawn))]).to_vec())])
     };
-    let far = TickCase { player: Player { place: 161, ..player(1, 0) }, bytes: reel.clone(), now: 70, shown: filled() };
+    let past = Player { place: 161, ..player(1, 0) };
+    let far = TickCase { player: past.into(), bytes: reel.clone(), now: 70, shown: filled() };
     let readings = vec![0, 69, 138, 139, 138, 1_000];
     let replay = ReplayCase { speed: SPEED, frames: 2, start: u32::MAX, readings, numbers: vec![9; 7] };
     let numbers = bytes_of(&[1, 2, 2, 3, 3, 2, 9_u32]).to_vec();
@@ -418,6 +598,38 @@ pub fn of_players() -> Vec<Example> {
         tick("a clock that was set back", (2, 0), u32::MAX, 2, (2, u32::MAX)),
         Example::done("a place past the bytes", far, Rest::Event(0), &[]).refused(4, 0),
         Example::done("replay", replay, Rest::Length(6), &[(1, numbers)]),
+    ]
+    .into_iter()
+    .chain(of_fli_players())
+    .collect()
+}
+
+/// The blank FLI's player of 5 jiffies: started, and ticked a millisecond before 71 and then.
+fn of_fli_players() -> Vec<Example> {
+    let fli = blank_fli();
+    let blank = || State::blank(FLI_PIXELS);
+    let player = |number, last, format| Player {
+        width: 320,
+        height: 200,
+        frames: 1,
+        number,
+        place: 144,
+        first_end: 144,
+        speed: 71,
+        last,
+        format,
+    };
+    let start = StartCase { bytes: fli.clone(), now: 9, first: blank(), second: blank() };
+    let tick = |name, format, now, event, (then, drawn)| {
+        let call = TickCase { player: player(1, 0, format).into(), bytes: fli.clone(), now, shown: blank() };
+        let left = bytes_of(&[Record::from(player(then, drawn, format))]).to_vec();
+        Example::done(name, call, Rest::Event(event), &[(0, left)])
+    };
+    vec![
+        Example::done("FLI: start", start, Rest::Player(player(1, 9, 1)), &[]),
+        tick("FLI: one millisecond before its delay", 1, 70, 0, (1, 0)),
+        tick("FLI: its delay", 1, 71, 1, (2, 71)),
+        tick("FLI: told by another number than 1", 7, 71, 1, (2, 71)),
     ]
 }
 

@@ -1,9 +1,11 @@
 //! The inputs of a run: cases, each a call or some calls that belong together, and families that make them from seeds.
 
 use super::calls::{
-    AddCase, Call, CheckCase, CheckTrailerCase, CloseCase, HeaderCase, ListCase, MarkedCase, OpenCase, ReadCase,
-    ReplayCase, RewriteCase, SearchCase, StartCase, StepCase, TickCase, TileMapCase, WriteCase, WriteTrailerCase,
+    AddCase, Call, CheckCase, CheckTrailerCase, CloseCase, HeaderCase, JiffiesCase, ListCase, MarkedCase,
+    MillisecondsCase, OpenCase, OpenFliCase, ReadCase, ReplayCase, RewriteCase, SearchCase, StartCase, StepCase,
+    TickCase, TileMapCase, WriteCase, WriteTrailerCase,
 };
+use crate::model::Format;
 use crate::rng::{mix, Rng};
 use crate::states::State;
 
@@ -11,6 +13,7 @@ use crate::states::State;
 #[derive(Clone, Debug, PartialEq, Eq)]
 pub struct PlayCase {
     pub bytes: Vec<u8>,
+    pub format: Format,
     pub width: usize,
     pub height: usize,
     pub states: Vec<State>,
@@ -50,6 +53,7 @@ cases! {
     Rewrite(RewriteCase),
     Check(CheckCase),
     Open(OpenCase),
+    OpenFli(OpenFliCase),
     Add(AddCase),
     Close(CloseCase),
     Play(PlayCase),
@@ -66,6 +70,8 @@ cases! {
     Live(LiveCase),
     TileMap(TileMapCase),
     Marked(MarkedCase),
+    Milliseconds(MillisecondsCase),
+    Jiffies(JiffiesCase),
 }
 
 impl Case {
@@ -77,6 +83,7 @@ impl Case {
             Case::Rewrite(call) => call,
             Case::Check(call) | Case::Around(AroundCase(call)) => call,
             Case::Open(call) => call,
+            Case::OpenFli(call) => call,
             Case::Add(call) => call,
             Case::Close(call) => call,
             Case::CheckTrailer(call) => call,
@@ -90,8 +97,18 @@ impl Case {
             Case::Replay(call) => call,
             Case::TileMap(call) => call,
             Case::Marked(call) => call,
+            Case::Milliseconds(call) => call,
+            Case::Jiffies(call) => call,
             Case::Play(_) => return None,
         })
+    }
+
+    /// The format of its frames, file or record.
+    pub fn format(&self) -> Format {
+        match self {
+            Case::Play(PlayCase { format, .. }) => *format,
+            _ => self.call().map_or(Format::Flc, Call::format),
+        }
     }
 }
 

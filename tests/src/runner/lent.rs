@@ -3,6 +3,7 @@
 
 use flic_boundary::Player;
 use std::marker::PhantomData;
+use std::ops::{Deref, DerefMut};
 
 /// What is lent besides bytes.
 ///
@@ -16,8 +17,72 @@ unsafe impl Plain for u32 {}
 // SAFETY: a number.
 unsafe impl Plain for u64 {}
 // SAFETY: numbers side by side, with no gap between them or after them.
-unsafe impl Plain for Player {}
-const _: () = assert!(size_of::<Player>() == 6 * size_of::<u64>() + 2 * size_of::<u32>());
+unsafe impl Plain for Record {}
+const _: () = assert!(size_of::<Record>() == 6 * size_of::<u64>() + 4 * size_of::<u32>());
+const _: () = assert!(size_of::<Record>() == size_of::<Player>() && align_of::<Record>() == align_of::<Player>());
+const _: () = assert!(std::mem::offset_of!(Record, format) == std::mem::offset_of!(Player, format));
+
+/// A player's record as it is lent, with the gap behind its fields, in which a call may leave anything.
+#[repr(C)]
+#[derive(Clone, Copy, Debug, PartialEq, Eq)]
+pub struct Record {
+    width: u64,
+    height: u64,
+    frames: u64,
+    number: u64,
+    place: u64,
+    first_end: u64,
+    speed: u32,
+    last: u32,
+    format: u32,
+    gap: u32,
+}
+
+impl From<Player> for Record {
+    fn from(player: Player) -> Record {
+        let Player { width, height, frames, number, place, first_end, speed, last, format } = player;
+        Record { width, height, frames, number, place, first_end, speed, last, format, gap: 0 }
+    }
+}
+
+impl From<Record> for Player {
+    fn from(record: Record) -> Player {
+        let Record { width, height, frames, number, place, first_end, speed, last, format, gap: _ } = record;
+        Player { width, height, frames, number, place, first_end, speed, last, format }
+    }
+}
+
+/// The record of a player where it is lent. What a call leaves in the gap is no part of it, and is taken out again.
+pub struct PlayerIn<'a>(&'a mut Record);
+
+impl<'a> PlayerIn<'a> {
+    pub fn of(bytes: &'a mut [u8]) -> PlayerIn<'a> {
+        let [record] = values_in(bytes) else { panic!("one record is lent") };
+        PlayerIn(record)
+    }
+}
+
+impl Deref for PlayerIn<'_> {
+    type Target = Player;
+
+    fn deref(&self) -> &Player {
+        // SAFETY: the fields of a record stand where a player's do.
+        unsafe { &*(&raw const *self.0).cast() }
+    }
+}
+
+impl DerefMut for PlayerIn<'_> {
+    fn deref_mut(&mut self) -> &mut Player {
+        // SAFETY: the same; the gap is set before anything reads it again.
+        unsafe { &mut *(&raw mut *self.0).cast() }
+    }
+}
+
+impl Drop for PlayerIn<'_> {
+    fn drop(&mut self) {
+        self.0.gap = 0;
+    }
+}
 
 /// The bytes of values.
 pub fn bytes_of<T: Plain>(values: &[T]) -> &[u8] {

@@ -1,7 +1,9 @@
 //! What a call answers, whichever it is: the number and the place that all give, and what goes with them.
 
-use crate::model::{Event, FileHeader, Outcome, Refusal, Searched, Span as Chunk};
-use flic_boundary::{Answer, Header, Player, PlayerAnswer, Reel, ReelAnswer, RowCost, Span, Ticked, TileRow, Written};
+use crate::model::{Event, FileHeader, Jiffies, Milliseconds, Outcome, Refusal, Searched, Span as Chunk};
+use flic_boundary::{
+    Answer, Delay, Header, Player, PlayerAnswer, Reel, ReelAnswer, RowCost, Span, Ticked, TileRow, Written,
+};
 
 #[derive(Clone, Copy, Debug, PartialEq, Eq)]
 pub struct Told {
@@ -22,6 +24,7 @@ pub enum Rest {
         frames: u64,
         size: u64,
         speed: u32,
+        format: u32,
     },
     Span {
         from: u64,
@@ -32,6 +35,8 @@ pub enum Rest {
         bytes: u64,
         turns: u64,
     },
+    /// A delay in the other unit.
+    Delay(u64),
     Player(Player),
     /// What a tick did.
     Event(u32),
@@ -81,8 +86,8 @@ impl From<ReelAnswer> for Told {
 }
 
 impl From<Header> for Told {
-    fn from(Header { number, place, width, height, frames, size, speed }: Header) -> Told {
-        Told { number, place, rest: Rest::Header { width, height, frames, size, speed } }
+    fn from(Header { number, place, width, height, frames, size, speed, format }: Header) -> Told {
+        Told { number, place, rest: Rest::Header { width, height, frames, size, speed, format } }
     }
 }
 
@@ -95,6 +100,12 @@ impl From<Span> for Told {
 impl From<RowCost> for Told {
     fn from(RowCost { number, place, bytes, turns }: RowCost) -> Told {
         Told { number, place, rest: Rest::Cost { bytes, turns } }
+    }
+}
+
+impl From<Delay> for Told {
+    fn from(Delay { number, place, delay }: Delay) -> Told {
+        Told { number, place, rest: Rest::Delay(delay.into()) }
     }
 }
 
@@ -136,13 +147,14 @@ impl From<Outcome> for Told {
 
 impl From<Result<FileHeader, Refusal>> for Told {
     fn from(answer: Result<FileHeader, Refusal>) -> Told {
-        let refused = Rest::Header { width: 0, height: 0, frames: 0, size: 0, speed: 0 };
-        Told::of(answer, refused, |FileHeader { size, width, height, frames, speed }| Rest::Header {
+        let refused = Rest::Header { width: 0, height: 0, frames: 0, size: 0, speed: 0, format: 0 };
+        Told::of(answer, refused, |FileHeader { format, size, width, height, frames, speed }| Rest::Header {
             width: width as u64,
             height: height as u64,
             frames: frames as u64,
             size: size as u64,
-            speed,
+            speed: speed.0 as u32,
+            format: format.number(),
         })
     }
 }
@@ -158,6 +170,18 @@ impl From<Result<Searched, Refusal>> for Told {
     fn from(answer: Result<Searched, Refusal>) -> Told {
         let refused = Rest::Cost { bytes: 0, turns: 0 };
         Told::of(answer, refused, |Searched { bytes, turns }| Rest::Cost { bytes: bytes as u64, turns: turns as u64 })
+    }
+}
+
+impl From<Result<Milliseconds, Refusal>> for Told {
+    fn from(answer: Result<Milliseconds, Refusal>) -> Told {
+        Told::of(answer, Rest::Delay(0), |Milliseconds(delay)| Rest::Delay(delay))
+    }
+}
+
+impl From<Result<Jiffies, Refusal>> for Told {
+    fn from(answer: Result<Jiffies, Refusal>) -> Told {
+        Told::of(answer, Rest::Delay(0), |Jiffies(delay)| Rest::Delay(delay))
     }
 }
 

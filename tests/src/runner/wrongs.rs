@@ -6,7 +6,7 @@ use super::guards::GuardBytes;
 use super::inputs::Inputs;
 use super::lent::{alignment, Lent, Side};
 use super::told::Told;
-use crate::model::{Model, MODEL, PALETTE_BYTES};
+use crate::model::{Format, Model, MODEL, PALETTE_BYTES};
 
 /// Something wrong that stands in for the library, so that no fault of the library's can hide it; the calls in which it
 /// must be seen; and after how many inputs it was.
@@ -15,12 +15,24 @@ pub struct Wrong {
     pub subject: Box<dyn Subject>,
     /// The functions in which it must be seen; none stands for any case.
     pub functions: Vec<&'static str>,
+    /// The format in whose calls it must be seen; none stands for either.
+    pub format: Option<Format>,
     pub seen: Option<u64>,
 }
 
 impl Wrong {
     pub fn of(name: impl Into<String>, subject: impl Subject + 'static, functions: &[&'static str]) -> Wrong {
-        Wrong { name: name.into(), subject: Box::new(subject), functions: functions.to_vec(), seen: None }
+        Wrong { name: name.into(), subject: Box::new(subject), functions: functions.to_vec(), format: None, seen: None }
+    }
+
+    /// The same, to be seen in calls of this format.
+    pub fn of_format(self, format: Format) -> Wrong {
+        Wrong { format: Some(format), ..self }
+    }
+
+    /// Whether it must be seen in calls such as this one.
+    pub fn concerns(&self, call: &dyn Call) -> bool {
+        self.functions.contains(&call.row().function) && self.format.is_none_or(|format| format == call.format())
     }
 }
 
@@ -39,9 +51,7 @@ pub fn see(wrongs: &mut [Wrong], families: &[&dyn Inputs], batches: u64, base: u
                     let comparer = Comparer { subject: &*wrong.subject, lender: &GuardBytes };
                     let differs = match case.call() {
                         _ if wrong.functions.is_empty() => comparer.case(&case, seed).is_err(),
-                        Some(call) if wrong.functions.contains(&call.row().function) => {
-                            comparer.call(call, seed).is_err()
-                        }
+                        Some(call) if wrong.concerns(call) => comparer.call(call, seed).is_err(),
                         _ => false,
                     };
                     if differs {
@@ -116,15 +126,16 @@ impl<F: Fn(Told) -> Told> Subject for Telling<F> {
     }
 }
 
-/// The model with one refusal left out, for each refusal of each entry point.
+/// The model with one refusal left out, for each refusal of each entry point and format.
 pub fn ignoring() -> Vec<Wrong> {
     let mut all = Vec::new();
-    for row in ROWS {
-        for number in row.numbers.iter().filter(|number| **number != 0) {
+    for (row, format) in ROWS.iter().flat_map(|row| Format::BOTH.map(|format| (row, format))) {
+        for number in row.numbers_of(format).iter().filter(|number| **number != 0) {
             let altered =
                 move |told: Told| if told.number == *number { Told { number: 0, place: 0, ..told } } else { told };
-            let name = format!("{} without refusal {number}", row.function);
-            all.push(Wrong::of(name, Telling { function: row.function, altered }, &[row.function]));
+            let name = format!("{} without refusal {number} in {format:?}", row.function);
+            let wrong = Wrong::of(name, Telling { function: row.function, altered }, &[row.function]);
+            all.push(wrong.of_format(format));
         }
     }
     all

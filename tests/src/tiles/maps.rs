@@ -2,7 +2,7 @@
 
 use super::make::{around_tiles, changed_at, of, some_words};
 use crate::model::tiles::TILE;
-use crate::model::{MAX_HEIGHT, MAX_WIDTH};
+use crate::model::{Format, MAX_HEIGHT, MAX_WIDTH};
 use crate::rng::Rng;
 use crate::runner::calls::TileMapCase;
 use crate::runner::inputs::{Case, Sink};
@@ -43,8 +43,8 @@ pub fn single_bits(rng: &mut Rng, sink: Sink) {
 /// Pictures as the writing tests have them.
 pub fn pictures(rng: &mut Rng, sink: Sink) {
     let (width, height) = right_size(rng);
-    let previous = state(rng, width, height);
-    let next = next_state(rng, &previous, width, height);
+    let previous = state(rng, Format::Flc, width, height);
+    let next = next_state(rng, Format::Flc, &previous, width, height);
     sink(Case::TileMap(of(rng, width, height, previous.picture, next.picture)));
 }
 
@@ -75,8 +75,11 @@ pub fn refused(rng: &mut Rng, sink: Sink) {
     for words in [0, rows - 1, rows, rows + 1] {
         let mut length = || rng.pick(&[0, pixels - 1, pixels, pixels, pixels]);
         let (before, after) = (length(), length());
-        let (width, height) =
-            if rng.once_in(4) { wrong_or_right(rng, width, height) } else { (width as u64, height as u64) };
+        let (width, height) = if rng.once_in(4) {
+            wrong_or_right(rng, Format::Flc, width, height)
+        } else {
+            (width as u64, height as u64)
+        };
         let (previous, next) = (rng.bytes(before), rng.bytes(after));
         sink(Case::TileMap(TileMapCase { width, height, previous, next, words: some_words(rng, words) }));
     }

@@ -2,7 +2,7 @@
 
 use super::make::trailer_of;
 use crate::damage::changed_values;
-use crate::model::size_at;
+use crate::model::{size_at, Format};
 use crate::reels::headers::small_reel;
 use crate::reels::loose_reel::Loose;
 use crate::rng::Rng;
@@ -21,7 +21,7 @@ pub fn changed_at(whole: &[u8], at: usize, sink: Sink) {
 
 /// Each byte of a trailer changed in turn.
 pub fn trailer_bytes(rng: &mut Rng, sink: Sink) {
-    let reel = small_reel(rng);
+    let reel = small_reel(rng, Format::Flc);
     let whole = [&reel[..], &trailer_of(&reel)].concat();
     for at in reel.len()..whole.len() {
         changed_at(&whole, at, sink);
@@ -30,7 +30,7 @@ pub fn trailer_bytes(rng: &mut Rng, sink: Sink) {
 
 /// Every length of a trailer, bytes after it and before it, and each of its bytes left out in turn.
 pub fn trailer_lengths(rng: &mut Rng, sink: Sink) {
-    let reel = small_reel(rng);
+    let reel = small_reel(rng, Format::Flc);
     let trailer = trailer_of(&reel);
     let mut check = |rest: &[&[u8]]| sink(CheckTrailerCase([&reel[..], &rest.concat()].concat()).into());
     for cut in 0..=trailer.len() {
@@ -81,7 +81,7 @@ impl Fields {
 
 /// Trailers whose fields are wrong in ways that a writer could slip into.
 pub fn trailer_fields(rng: &mut Rng, sink: Sink) {
-    let mut loose = Loose::small(rng);
+    let mut loose = Loose::small(rng, Format::Flc);
     loose.add_others(rng);
     let reel = loose.bytes();
     let right = Fields::of(&trailer_of(&reel));

@@ -3,14 +3,14 @@
 use super::make::each_call;
 use super::nest::{children_start, chunk, container};
 use crate::frames::frame_of;
-use crate::model::{CHUNK_HEADER, FRAME_TYPE, MOST_DEPTH, MOST_LISTED, PREFIX_TYPE};
+use crate::model::{Format, CHUNK_HEADER, FRAME_TYPE, MOST_DEPTH, MOST_LISTED, PREFIX_TYPE};
 use crate::reels::headers::small_reel;
 use crate::reels::loose_reel::Loose;
 use crate::rng::Rng;
 use crate::runner::inputs::Sink;
 
 fn bytes_of(chunks: Vec<Vec<u8>>) -> Vec<u8> {
-    Loose { width: 320, height: 200, frames: 1, chunks, after: Vec::new() }.bytes()
+    Loose { format: Format::Flc, width: 320, height: 200, frames: 1, chunks, after: Vec::new() }.bytes()
 }
 
 /// A reel of this length in all, after whose first frame a chunk fills what is left.
@@ -43,7 +43,7 @@ fn of_one(length: usize) -> Vec<u8> {
 
 /// Each call on one byte less, as many and one byte more than is listed, and on next to nothing.
 pub fn limits(rng: &mut Rng, sink: Sink) {
-    let small = small_reel(rng);
+    let small = small_reel(rng, Format::Flc);
     for length in MOST_LISTED - 1..=MOST_LISTED + 1 {
         for fill in [of_one, of_many, of_many_deep] {
             each_call(rng, filled(length, fill), sink);

@@ -1,6 +1,6 @@
 //! What the families of trailers and listings share: calls on bytes that are at hand, and reels with their trailers.
 
-use crate::model::{field, word_at, FILE_HEADER, MODEL};
+use crate::model::{field, word_at, Format, FILE_HEADER, MODEL};
 use crate::rng::Rng;
 use crate::runner::calls::{CheckCase, CheckTrailerCase, HeaderCase, ListCase, StepCase, WriteTrailerCase};
 use crate::runner::inputs::{Case, Sink};
@@ -53,12 +53,12 @@ fn steps_of(bytes: &[u8], sink: Sink) {
 }
 
 /// A family of the reel tests.
-pub type ReelFamily = fn(&mut Rng, &mut dyn FnMut(Case));
+pub type ReelFamily = fn(&mut Rng, Format, &mut dyn FnMut(Case));
 
 /// The whole-reel checks among the inputs of a family of the reel tests.
-pub fn checks_of(rng: &mut Rng, family: ReelFamily) -> Vec<CheckCase> {
+pub fn checks_of(rng: &mut Rng, format: Format, family: ReelFamily) -> Vec<CheckCase> {
     let mut checks = Vec::new();
-    family(rng, &mut |case| {
+    family(rng, format, &mut |case| {
         if let Case::Check(case) = case {
             checks.push(case);
         }

@@ -4,7 +4,7 @@ use super::make::{each_call, list_of};
 use super::nest::{children_start, chunk, container, Nester, CONTAINERS};
 use crate::damage::{set_size, set_word, wrong_size_field};
 use crate::frames::frame_of;
-use crate::model::{kind, FRAME_HEADER, FRAME_TYPE, MODEL, PREFIX_TYPE};
+use crate::model::{kind, Format, FRAME_HEADER, FRAME_TYPE, MODEL, PREFIX_TYPE};
 use crate::reels::loose_reel::Loose;
 use crate::rng::Rng;
 use crate::runner::calls::ListCase;
@@ -17,7 +17,7 @@ const MOST_LEVELS: usize = 12;
 /// A reel of these chunks, of which `frames` and the ring are frames.
 fn reel_of(rng: &mut Rng, frames: usize, chunks: Vec<Vec<u8>>) -> Loose {
     let (width, height) = small_size(rng);
-    Loose { width, height, frames, chunks, after: Vec::new() }
+    Loose { format: Format::Flc, width, height, frames, chunks, after: Vec::new() }
 }
 
 /// The bytes of a reel of one blank frame and a blank ring, with this chunk before, between or after them.

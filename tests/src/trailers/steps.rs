@@ -1,6 +1,6 @@
 //! Families of steps to the next frame: from every offset of a reel and past it, and in every beginning of one.
 
-use crate::model::FILE_HEADER;
+use crate::model::{Format, FILE_HEADER};
 use crate::reels::loose_reel::Loose;
 use crate::rng::Rng;
 use crate::runner::calls::StepCase;
@@ -21,7 +21,7 @@ const FAR: [u64; 8] = [
 /// A reel of few bytes with chunks between its frames that are stepped over, and where its chunks begin.
 fn small_loose(rng: &mut Rng) -> (Vec<u8>, Vec<usize>) {
     loop {
-        let mut loose = Loose::small(rng);
+        let mut loose = Loose::small(rng, Format::Flc);
         loose.add_others(rng);
         let bytes = loose.bytes();
         if bytes.len() < 500 {

@@ -1,14 +1,14 @@
 //! Families of what the walk before a trailer or a listing may meet: the reel tests' file headers and top-level chunks.
 
 use super::make::{checks_of, each_call, trailer_length, ReelFamily};
-use crate::model::{FILE_HEADER, MODEL};
+use crate::model::{Format, FILE_HEADER, MODEL};
 use crate::reels::{chunks, headers};
 use crate::rng::Rng;
 use crate::runner::inputs::Sink;
 
 /// Each call on the reels of a family of the reel tests, with nothing, anything or a trailer after what is there.
-fn walked(rng: &mut Rng, family: ReelFamily, sink: Sink) {
-    for case in checks_of(rng, family) {
+fn walked(rng: &mut Rng, format: Format, family: ReelFamily, sink: Sink) {
+    for case in checks_of(rng, format, family) {
         let mut bytes = case.bytes;
         let room = match rng.below(4) {
             0 | 1 => 0,
@@ -25,34 +25,34 @@ fn walked(rng: &mut Rng, family: ReelFamily, sink: Sink) {
     }
 }
 
-pub fn header_bytes(rng: &mut Rng, sink: Sink) {
-    walked(rng, headers::header_bytes, sink);
+pub fn header_bytes(rng: &mut Rng, format: Format, sink: Sink) {
+    walked(rng, format, headers::header_bytes, sink);
 }
 
-pub fn header_faults(rng: &mut Rng, sink: Sink) {
-    walked(rng, headers::header_faults, sink);
+pub fn header_faults(rng: &mut Rng, format: Format, sink: Sink) {
+    walked(rng, format, headers::header_faults, sink);
 }
 
-pub fn cuts(rng: &mut Rng, sink: Sink) {
-    walked(rng, headers::cuts, sink);
+pub fn cuts(rng: &mut Rng, format: Format, sink: Sink) {
+    walked(rng, format, headers::cuts, sink);
 }
 
-pub fn others(rng: &mut Rng, sink: Sink) {
-    walked(rng, chunks::others, sink);
+pub fn others(rng: &mut Rng, format: Format, sink: Sink) {
+    walked(rng, format, chunks::others, sink);
 }
 
-pub fn chunk_sizes(rng: &mut Rng, sink: Sink) {
-    walked(rng, chunks::chunk_sizes, sink);
+pub fn chunk_sizes(rng: &mut Rng, format: Format, sink: Sink) {
+    walked(rng, format, chunks::chunk_sizes, sink);
 }
 
-pub fn left_over(rng: &mut Rng, sink: Sink) {
-    walked(rng, chunks::left_over, sink);
+pub fn left_over(rng: &mut Rng, format: Format, sink: Sink) {
+    walked(rng, format, chunks::left_over, sink);
 }
 
-pub fn damaged(rng: &mut Rng, sink: Sink) {
-    walked(rng, chunks::damaged, sink);
+pub fn damaged(rng: &mut Rng, format: Format, sink: Sink) {
+    walked(rng, format, chunks::damaged, sink);
 }
 
-pub fn chance(rng: &mut Rng, sink: Sink) {
-    walked(rng, chunks::chance, sink);
+pub fn chance(rng: &mut Rng, format: Format, sink: Sink) {
+    walked(rng, format, chunks::chance, sink);
 }

@@ -4,7 +4,7 @@ use super::changed::changed_at;
 use super::make::{each_call, list_of, trailer_length, trailer_of};
 use crate::damage::set_word;
 use crate::frames::frame_of;
-use crate::model::{field, MAX_FRAMES};
+use crate::model::{field, Format, MAX_FRAMES};
 use crate::reels::built_reel::Built;
 use crate::reels::headers::small_reel;
 use crate::reels::loose_reel::Loose;
@@ -30,14 +30,14 @@ fn written(rng: &mut Rng, reel: &[u8], sink: Sink) {
 pub fn counts(rng: &mut Rng, sink: Sink) {
     let (width, height) = reel_size(rng);
     for frames in 1..=50 {
-        let reel = Built::in_order(rng, width, height, frames).closed().1;
+        let reel = Built::in_order(rng, Format::Flc, width, height, frames).closed().1;
         written(rng, &reel, sink);
     }
 }
 
 /// Reels with chunks that are stepped over, before the ring and between the ring and the size.
 pub fn ignored(rng: &mut Rng, sink: Sink) {
-    let mut loose = Loose::small(rng);
+    let mut loose = Loose::small(rng, Format::Flc);
     loose.add_others(rng);
     written(rng, &loose.bytes(), sink);
 }
@@ -45,7 +45,14 @@ pub fn ignored(rng: &mut Rng, sink: Sink) {
 /// A reel of 4,000 frames, and headers that tell one more or one less.
 pub fn longest(rng: &mut Rng, sink: Sink) {
     let frames = MAX_FRAMES as usize;
-    let reel = Loose { width: 1, height: 1, frames, chunks: vec![frame_of(&[]); frames + 1], after: Vec::new() };
+    let reel = Loose {
+        format: Format::Flc,
+        width: 1,
+        height: 1,
+        frames,
+        chunks: vec![frame_of(&[]); frames + 1],
+        after: Vec::new(),
+    };
     let bytes = reel.bytes();
     written(rng, &bytes, sink);
     let whole = [&bytes[..], &trailer_of(&bytes)].concat();
@@ -62,7 +69,7 @@ pub fn longest(rng: &mut Rng, sink: Sink) {
 
 /// Every room from none to three bytes more than the trailer needs.
 pub fn rooms(rng: &mut Rng, sink: Sink) {
-    let reel = small_reel(rng);
+    let reel = small_reel(rng, Format::Flc);
     for room in 0..=trailer_length(&reel) + 3 {
         let bytes = [&reel[..], &rng.bytes(room)].concat();
         sink(WriteTrailerCase(bytes.clone()).into());
@@ -72,7 +79,7 @@ pub fn rooms(rng: &mut Rng, sink: Sink) {
 
 /// Trailers written over those of other reels, longer or shorter, whole or cut.
 pub fn old_trailers(rng: &mut Rng, sink: Sink) {
-    let (reel, other) = (small_reel(rng), small_reel(rng));
+    let (reel, other) = (small_reel(rng, Format::Flc), small_reel(rng, Format::Flc));
     let (own, old) = (trailer_of(&reel), trailer_of(&other));
     let cut = own[..rng.below(own.len())].to_vec();
     let spare = rng.bytes(20);

@@ -1,8 +1,10 @@
 //! Other readings of a frame.
 
 use super::{readings, rules};
-use crate::model::decode::{Data, FrameHeader, Frames, Line, Packet, RowStart, Screen, Ss2Word};
-use crate::model::{kind, long_enough, number, size_at, Document, Refusal, CHUNK_HEADER, FRAME_HEADER};
+use crate::model::decode::{Data, FrameHeader, Frames, Line, Packet, RowStart, Screen, Ss2Word, SubChunk};
+use crate::model::{
+    kind, long_enough, number, require, size_at, word_at, Document, Format, Refusal, CHUNK_HEADER, FRAME_HEADER,
+};
 use crate::ways::{packet_bytes, MANY};
 use flic_boundary::PairMut;
 use std::ops::Range;
@@ -12,9 +14,13 @@ rules! { Frames;
     OtherDeltaPacket: delta_packet(
         data: &mut Data, screen: &mut Screen, row: usize, x: usize, unit: usize
     ) -> Result<usize, u32>;
-    OtherChecked: checked(width: u64, height: u64, shown: &PairMut) -> Result<Screen, Refusal>;
-    OtherReadFrame: read_frame(bytes: &[u8], width: u64, height: u64, shown: PairMut) -> Result<(), Refusal>;
-    OtherPlay: play(bytes: &[u8], screen: &mut Screen) -> Result<(), Refusal>;
+    OtherChecked: checked(format: Format, width: u64, height: u64, shown: &PairMut) -> Result<Screen, Refusal>;
+    OtherReadFrame: read_frame(
+        bytes: &[u8], format: Format, width: u64, height: u64, shown: PairMut
+    ) -> Result<(), Refusal>;
+    OtherPlay: play(bytes: &[u8], format: Format, screen: &mut Screen) -> Result<(), Refusal>;
+    OtherSubChunk: sub_chunk(enclosing: &[u8], format: Format, place: usize) -> Result<SubChunk, Refusal>;
+    OtherMayHold: may_hold(format: Format, kind: u16) -> bool;
     OtherPixels: pixels(
         packet: &Packet, unit: usize, data: &mut Data, after: usize, width: usize
     ) -> Result<Vec<u8>, u32>;
@@ -57,19 +63,19 @@ readings! { ALL: Frames;
         let skip = data.rest.first().map_or(0, |skip| *skip as usize);
         Document.delta_packet(data, screen, row, x + skip * (unit - 1), unit)
     });
-    SlicesBeforeSize = OtherChecked(|width, height, shown| {
+    SlicesBeforeSize = OtherChecked(|format, width, height, shown| {
         long_enough(width.saturating_mul(height) as usize, &[shown.picture], &[shown.palette])?;
-        Document.checked(width, height, shown)
+        Document.checked(format, width, height, shown)
     });
-    TouchesNothing = OtherReadFrame(|bytes, width, height, shown| {
-        let mut screen = Document.checked(width, height, &shown)?;
-        Document.play(bytes, &mut screen)
+    TouchesNothing = OtherReadFrame(|bytes, format, width, height, shown| {
+        let mut screen = Document.checked(format, width, height, &shown)?;
+        Document.play(bytes, format, &mut screen)
     });
-    FixedPicture = OtherPlay(|bytes, screen| {
-        Document.play(bytes, screen)?;
+    FixedPicture = OtherPlay(|bytes, format, screen| {
+        Document.play(bytes, format, screen)?;
         Document.black(screen).map_err(|number| Refusal::new(number, 0))
     });
-    RefusesEverything = OtherReadFrame(|_, _, _, _| Err(Refusal::new(number::CUT_SHORT, 0)));
+    RefusesEverything = OtherReadFrame(|_, _, _, _, _| Err(Refusal::new(number::CUT_SHORT, 0)));
     DataBeforeWidth = OtherPixels(|packet, unit, data, after, width| {
         let needed = if packet.repeats { unit } else { packet.count * unit };
         if data.rest.len() < needed {
@@ -166,9 +172,9 @@ readings! { ALL: Frames;
         Document.spare(kind, data.rest.len())?;
         acted
     });
-    SpareAtFrameEnd = OtherPlay(|bytes, screen| {
-        Unjudged.play(bytes, screen)?;
-        Document.play(bytes, screen)
+    SpareAtFrameEnd = OtherPlay(|bytes, format, screen| {
+        Unjudged.play(bytes, format, screen)?;
+        Document.play(bytes, format, screen)
     });
     PlaceOfSpare = OtherFault(|number, place| match number {
         number::SPARE_BYTES => Refusal::new(number, place + CHUNK_HEADER),
@@ -179,16 +185,16 @@ readings! { ALL: Frames;
         screen.picture.fill(0);
         Ok(())
     });
-    KeepsHalfReadFrame = OtherReadFrame(|bytes, width, height, shown| {
-        let mut screen = Document.checked(width, height, &shown)?;
-        let answer = Document.play(bytes, &mut screen);
+    KeepsHalfReadFrame = OtherReadFrame(|bytes, format, width, height, shown| {
+        let mut screen = Document.checked(format, width, height, &shown)?;
+        let answer = Document.play(bytes, format, &mut screen);
         shown.picture.copy_from_slice(&screen.picture);
         shown.palette.copy_from_slice(&screen.palette);
         answer
     });
-    KeepsHalfReadHeavyFrame = OtherReadFrame(|bytes, width, height, shown| {
-        let mut screen = Document.checked(width, height, &shown)?;
-        let answer = Document.play(bytes, &mut screen);
+    KeepsHalfReadHeavyFrame = OtherReadFrame(|bytes, format, width, height, shown| {
+        let mut screen = Document.checked(format, width, height, &shown)?;
+        let answer = Document.play(bytes, format, &mut screen);
         if answer.as_ref().map_or_else(|refusal| refusal.place > 0 && packet_bytes(bytes) >= MANY, |()| true) {
             shown.picture.copy_from_slice(&screen.picture);
             shown.palette.copy_from_slice(&screen.palette);
@@ -239,5 +245,114 @@ readings! { ALL: Frames;
             3 if line.row > line.first_row => Err(number::BAD_SS2_WORD),
             _ => Document.ss2_word(word, line),
         }
+    });
+}
+
+/// Whether a frame's sub-chunk is of a kind that its format hasn't.
+fn is_foreign(enclosing: &[u8], format: Format, place: usize) -> bool {
+    let is_there = enclosing.len() >= place + CHUNK_HEADER;
+    is_there && !Document.may_hold(format, word_at(enclosing, place + 4))
+}
+
+/// A sub-chunk whatever its kind.
+fn of_any_kind(enclosing: &[u8], place: usize) -> Result<SubChunk, Refusal> {
+    Document.sub_chunk(enclosing, Format::Flc, place)
+}
+
+/// Reads on over kinds that the format hasn't.
+struct AllKinds;
+
+impl Frames for AllKinds {
+    fn may_hold(&self, _format: Format, _kind: u16) -> bool {
+        true
+    }
+}
+
+// What can be taken otherwise in a frame of an FLI.
+readings! { FLI: Frames;
+    Kind7ReadInFli = OtherMayHold(|format, kind| kind == kind::SS2 || Document.may_hold(format, kind));
+    Kind18SteppedOverInFli = OtherMayHold(|format, kind| kind == kind::PSTAMP || Document.may_hold(format, kind));
+    UnknownRefusedInFli = OtherMayHold(|format, kind| match kind {
+        kind::COLOR256 | kind::COLOR | kind::LC | kind::BLACK | kind::BRUN | kind::COPY => true,
+        _ => format == Format::Flc,
+    });
+    Colours256RefusedInFli = OtherMayHold(|format, kind| {
+        Document.may_hold(format, kind) && (format == Format::Flc || kind != kind::COLOR256)
+    });
+    KindOfOneByteInFli = OtherMayHold(|format, kind| Document.may_hold(format, kind & 0xFF));
+    OnlyTheFirstIsJudged = OtherSubChunk(|enclosing, format, place| match place {
+        FRAME_HEADER => Document.sub_chunk(enclosing, format, place),
+        _ => of_any_kind(enclosing, place),
+    });
+    KindBeforeItsSizes = OtherSubChunk(|enclosing, format, place| {
+        require(!is_foreign(enclosing, format, place), number::NOT_IN_FLI, place)?;
+        Document.sub_chunk(enclosing, format, place)
+    });
+    KindBeforeSizeTooLarge = OtherSubChunk(|enclosing, format, place| {
+        let is_foreign = is_foreign(enclosing, format, place) && size_at(enclosing, place) >= CHUNK_HEADER;
+        require(!is_foreign, number::NOT_IN_FLI, place)?;
+        Document.sub_chunk(enclosing, format, place)
+    });
+    KindAfterItsBody = OtherPlay(|bytes, format, screen| {
+        let header = Document.frame_header(bytes)?;
+        let mut place = FRAME_HEADER;
+        for _ in 0..header.count {
+            let chunk = of_any_kind(&bytes[..header.end], place)?;
+            let data = &mut Data { rest: &bytes[place + CHUNK_HEADER..place + chunk.size] };
+            Document.judged(chunk.kind, data, screen).map_err(|number| Refusal::new(number, place))?;
+            Document.sub_chunk(&bytes[..header.end], format, place)?;
+            place += chunk.size;
+        }
+        Ok(())
+    });
+    KindsAfterTheFrame = OtherPlay(|bytes, format, screen| {
+        AllKinds.play(bytes, format, screen)?;
+        Document.play(bytes, format, screen)
+    });
+    KindsBeforeTheFrame = OtherPlay(|bytes, format, screen| {
+        let header = Document.frame_header(bytes)?;
+        let mut place = FRAME_HEADER;
+        for _ in 0..header.count {
+            let Ok(chunk) = of_any_kind(&bytes[..header.end], place) else { break };
+            Document.sub_chunk(&bytes[..header.end], format, place)?;
+            place += chunk.size;
+        }
+        Document.play(bytes, format, screen)
+    });
+    KindRefusedAtItsBody = OtherSubChunk(|enclosing, format, place| {
+        Document.sub_chunk(enclosing, format, place).map_err(|refusal| match refusal.number {
+            number::NOT_IN_FLI => Refusal::new(refusal.number, place + CHUNK_HEADER),
+            _ => refusal,
+        })
+    });
+    KindRefusedAtItsFrame = OtherSubChunk(|enclosing, format, place| {
+        Document.sub_chunk(enclosing, format, place).map_err(|refusal| match refusal.number {
+            number::NOT_IN_FLI => Refusal::new(refusal.number, 0),
+            _ => refusal,
+        })
+    });
+    FliOfAnySize = OtherChecked(|_, width, height, shown| Document.checked(Format::Flc, width, height, shown));
+    SlicesBeforeSizeOfFli = OtherChecked(|format, width, height, shown| {
+        long_enough(width.saturating_mul(height) as usize, &[shown.picture], &[shown.palette])?;
+        Document.checked(format, width, height, shown)
+    });
+    KeepsHalfReadFli = OtherReadFrame(|bytes, format, width, height, shown| {
+        let mut screen = Document.checked(format, width, height, &shown)?;
+        let answer = Document.play(bytes, format, &mut screen);
+        if answer.is_ok() || answer.is_err_and(|refusal| refusal.number == number::NOT_IN_FLI) {
+            shown.picture.copy_from_slice(&screen.picture);
+            shown.palette.copy_from_slice(&screen.palette);
+        }
+        answer
+    });
+    KeepsHalfReadHeavyFli = OtherReadFrame(|bytes, format, width, height, shown| {
+        let mut screen = Document.checked(format, width, height, &shown)?;
+        let answer = Document.play(bytes, format, &mut screen);
+        let foreign = |refusal: Refusal| refusal.number == number::NOT_IN_FLI && packet_bytes(bytes) >= MANY;
+        if answer.is_ok() || answer.is_err_and(foreign) {
+            shown.picture.copy_from_slice(&screen.picture);
+            shown.palette.copy_from_slice(&screen.palette);
+        }
+        answer
     });
 }

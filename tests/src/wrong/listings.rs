@@ -1,11 +1,12 @@
 //! Other listings.
 
+use super::trailers::as_flc;
 use super::{readings, rules};
 use crate::model::listing::{Listing, Listings};
 use crate::model::trailer::{walked, Walked};
 use crate::model::{
-    kind, number, require, word_at, Document, Model, Refusal, Span, CHUNK_HEADER, FRAME_HEADER, FRAME_TYPE, MOST_DEPTH,
-    MOST_LISTED, PREFIX_TYPE,
+    kind, number, require, word_at, Document, Format, Model, Refusal, Span, CHUNK_HEADER, FRAME_HEADER, FRAME_TYPE,
+    MOST_DEPTH, MOST_LISTED, PREFIX_TYPE,
 };
 
 rules! { Listings;
@@ -167,4 +168,14 @@ fn list_line(listing: &mut Listing, place: usize) {
         let line = Document.line(listing, child);
         listing.text.push_str(&line);
     }
+}
+
+// What a listing can do wrong with an FLI.
+readings! { FLI: Listings;
+    FliListed = OtherLines(|model, bytes| Document.lines(model, &as_flc(bytes)));
+    FliUnlistedAfterItsHeader = OtherLines(|model, bytes| {
+        let header = model.read_header(bytes)?;
+        require(header.format == Format::Flc, number::WRONG_TYPE, 0)?;
+        Document.lines(model, bytes)
+    });
 }

@@ -1,5 +1,6 @@
 //! What is wrong on purpose, and in which calls it must be seen: other readings of the documents, and trespasses.
 
+mod formats;
 mod frames;
 mod headers;
 mod house;
@@ -10,7 +11,7 @@ mod tiles;
 mod top_level;
 mod trailers;
 
-use crate::cases::{FAMILIES, SINGLE};
+use crate::cases::{FAMILIES, FLI_FAMILIES, FLI_SHOWN, SINGLE};
 use crate::model::{Model, MODEL};
 use crate::players::families as player_families;
 use crate::reels::families as reel_families;
@@ -22,7 +23,10 @@ use crate::runner::told::{Rest, Told};
 use crate::runner::wrongs::{models, see, Deed, Telling, Trespasser, Wrong};
 use crate::tiles::families as tile_families;
 use crate::trailers::families as trailer_families;
-use crate::write_cases::{REWRITE_FAMILIES, SEARCH_FAMILIES, SINGLE_REWRITES, SINGLE_WRITES, WRITE_FAMILIES};
+use crate::write_cases::{
+    FLI_REWRITE_FAMILIES, FLI_WRITE_FAMILIES, REWRITE_FAMILIES, SEARCH_FAMILIES, SINGLE_REWRITES, SINGLE_WRITES,
+    WRITE_FAMILIES,
+};
 use flic_boundary::Player;
 
 /// For a rule of a part of the documents: readings that take this rule otherwise, and all others as they stand.
@@ -92,6 +96,12 @@ pub const REELS: [Trespass; 10] = [
     ("a close that changes a byte past the ring", "close_reel", "reel", Deed::ChangesPast),
 ];
 
+pub const FLI: [Trespass; 3] = [
+    ("an open of an FLI that writes before the bytes", "open_fli", "reel", BEFORE),
+    ("an open of an FLI that writes after the bytes", "open_fli", "reel", AFTER),
+    ("an open of an FLI that changes a byte when refused", "open_fli", "reel", Deed::ChangesWhenRefused),
+];
+
 pub const TRAILERS: [Trespass; 14] = [
     ("a check that changes the file", "check_trailer", "file", Deed::Changes),
     ("a check that writes after the file", "check_trailer", "file", AFTER),
@@ -145,8 +155,8 @@ pub fn trespassers(all: &[Trespass]) -> Vec<Wrong> {
 /// Refusals that tell more than they should.
 pub fn tellers() -> Vec<Wrong> {
     let header = |told: Told| match told.rest {
-        Rest::Header { height, frames, size, speed, .. } if told.number == 14 => {
-            Told { rest: Rest::Header { width: 1, height, frames, size, speed }, ..told }
+        Rest::Header { height, frames, size, speed, format, .. } if told.number == 14 => {
+            Told { rest: Rest::Header { width: 1, height, frames, size, speed, format }, ..told }
         }
         _ => told,
     };
@@ -166,6 +176,19 @@ pub fn tellers() -> Vec<Wrong> {
             &["next_frame"],
         ),
     ]
+}
+
+/// The same of delays.
+pub fn delay_tellers() -> Vec<Wrong> {
+    let delayed = |told: Told| match told.number {
+        0 => told,
+        _ => Told { rest: Rest::Delay(65_535), ..told },
+    };
+    let wrong = |function: &'static str| {
+        let name = format!("a refused delay that is told by {function}");
+        Wrong::of(name, Telling { function, altered: delayed }, &[function])
+    };
+    vec![wrong("in_milliseconds"), wrong("in_jiffies")]
 }
 
 /// The same of searches.
@@ -230,6 +253,21 @@ pub fn of_frames() -> Models {
     with!(frames: frames::ALL)
 }
 
+/// Readings of a frame of an FLI.
+pub fn of_fli_frames() -> Models {
+    with!(frames: frames::FLI)
+}
+
+/// Those of them that a reel, a rewrite and a player show too.
+fn of_foreign_kinds() -> Models {
+    named(&["Kind7ReadInFli", "Kind18SteppedOverInFli", "KindBeforeItsSizes", "KindAfterItsBody"], of_fli_frames())
+}
+
+/// Ways to take the number of a format.
+fn of_numbers() -> Models {
+    with!(formats: formats::TOLD)
+}
+
 /// Those of a frame's readings that take spare bytes otherwise.
 fn of_spare_bytes() -> Models {
     of_frames().into_iter().filter(|(name, _)| name.contains("Spare")).collect()
@@ -239,6 +277,10 @@ pub fn seen_in_reading(base: u64) -> Vec<Wrong> {
     let mut all = models(of_frames(), &["read_frame"]);
     all.extend(trespassers(&READING));
     see(&mut all, &listed(&FAMILIES[..SINGLE]), 4_000, base);
+    let mut fli = models(of_fli_frames(), &["read_frame"]);
+    fli.extend(in_call("read_frame", of_numbers()));
+    see(&mut fli, &listed(&FLI_FAMILIES[..FLI_SHOWN]), 300, base);
+    all.extend(fli);
     all
 }
 
@@ -256,6 +298,36 @@ pub fn seen_in_writing(base: u64) -> Vec<Wrong> {
     searches.extend(search_tellers());
     see(&mut searches, &listed(&SEARCH_FAMILIES), 30_000, base);
     writes.extend(searches);
+    writes.extend(seen_in_fli_writing(base));
+    writes
+}
+
+/// Readings of the house form that an FLI must show too.
+const HOUSE_OF_BOTH: [&str; 10] = [
+    "AlwaysCopy",
+    "TieForCopy",
+    "TieForShortest",
+    "CopyBeforeBrun",
+    "IgnoredByteZero",
+    "DeltaWhenAsLong",
+    "NeverDelta",
+    "ColoursInOnePacket",
+    "ColourAfterPicture",
+    "WritesWhenShort",
+];
+
+fn seen_in_fli_writing(base: u64) -> Vec<Wrong> {
+    let of_both = named(&HOUSE_OF_BOTH, with!(house: house::WRITING));
+    let mut writes = models(with!(house: house::FLI), &["write_frame"]);
+    writes.extend(in_call("write_frame", of_numbers()));
+    writes.extend(in_words("in an FLI", of_both, &["write_frame"]));
+    see(&mut writes, &listed(&FLI_WRITE_FAMILIES), 60, base);
+    let rewriting: [Models; 3] =
+        [of_numbers(), of_foreign_kinds(), named(&["FlcDeltaInFli"], with!(house: house::FLI))];
+    let mut rewrites = in_call("rewrite_frame", rewriting.concat());
+    rewrites.extend(in_words("in an FLI", with!(house: house::REWRITING), &["rewrite_frame"]));
+    see(&mut rewrites, &listed(&FLI_REWRITE_FAMILIES), 60, base);
+    writes.extend(rewrites);
     writes
 }
 
@@ -274,6 +346,23 @@ pub fn seen_in_reels(base: u64) -> Vec<Wrong> {
     all.extend(in_call("close_reel", playing.concat()));
     all.extend(trespassers(&REELS));
     see(&mut all, &listed(&reel_families::FAMILIES[..reel_families::SMALL]), 100, base);
+    all.extend(seen_in_fli_reels(base));
+    all
+}
+
+fn seen_in_fli_reels(base: u64) -> Vec<Wrong> {
+    let built: [Models; 2] = [with!(building: reels::FLI), with!(headers: headers::FLI_WRITTEN)];
+    let checked: [Models; 3] = [with!(headers: headers::FLI), with!(formats: formats::MAGIC), of_foreign_kinds()];
+    let delays: [Models; 2] = [with!(formats: formats::DELAYS), with!(formats: formats::FROM_JIFFIES)];
+    let mut all = models(built.concat(), &["open_fli", "add_frame", "close_reel"]);
+    all.extend(in_call("check_reel", checked.concat()));
+    all.extend(in_words("in an FLI", with!(checking: reels::CHECKING), &["check_reel"]));
+    all.extend(in_call("add_frame", of_numbers()));
+    all.extend(in_call("close_reel", [of_numbers(), of_foreign_kinds()].concat()));
+    all.extend(models(delays.concat(), &["in_milliseconds", "in_jiffies"]));
+    all.extend(delay_tellers());
+    all.extend(trespassers(&FLI));
+    see(&mut all, &listed(&reel_families::FLI_FAMILIES), 100, base);
     all
 }
 
@@ -284,7 +373,12 @@ fn named(names: &[&str], models: Models) -> Models {
 
 /// Wrong models that must be seen in one call, by names that tell it.
 fn in_call(call: &'static str, wrong: Models) -> Vec<Wrong> {
-    models(wrong.into_iter().map(|(name, model)| (format!("{name} in {call}"), model)).collect(), &[call])
+    in_words(&format!("in {call}"), wrong, &[call])
+}
+
+/// Wrong models by names with these words behind them.
+fn in_words(words: &str, wrong: Models, functions: &[&'static str]) -> Vec<Wrong> {
+    models(wrong.into_iter().map(|(name, model)| (format!("{name} {words}"), model)).collect(), functions)
 }
 
 /// A wrong walk through a reel must show in each call that walks.
@@ -309,6 +403,14 @@ pub fn seen_in_trailers(base: u64) -> Vec<Wrong> {
         all.extend(in_call(call, wrong));
     }
     see(&mut all, &listed(&trailer_families::FAMILIES), 100, base);
+    let told: [Models; 2] =
+        [with!(headers: headers::FLI, headers::FLI_SPEEDS), with!(formats: formats::MAGIC, formats::FROM_JIFFIES)];
+    let mut fli = models(with!(trailers: trailers::FLI_CHECKED), &["check_trailer"]);
+    fli.extend(models(with!(trailers: trailers::FLI_WRITTEN), &["write_trailer"]));
+    fli.extend(models(with!(listings: listings::FLI), &["list"]));
+    fli.extend(in_call("read_header", told.concat()));
+    see(&mut fli, &listed(&trailer_families::FLI_FAMILIES), 100, base);
+    all.extend(fli);
     all
 }
 
@@ -339,6 +441,17 @@ pub fn seen_in_players(base: u64) -> Vec<Wrong> {
     all.extend(trespassers(&PLAYERS));
     all.extend(player_tellers());
     see(&mut all, &listed(&player_families::FAMILIES[..player_families::SMALL]), 100, base);
+    let starts: [Models; 4] = [
+        with!(headers: headers::FLI, headers::FLI_SPEEDS),
+        with!(formats: formats::MAGIC, formats::FROM_JIFFIES),
+        with!(players: players::FLI_STARTS),
+        of_foreign_kinds(),
+    ];
+    let ticks: [Models; 3] = [with!(players: players::FLI_TICKS), of_numbers(), of_foreign_kinds()];
+    let mut fli = in_call("start_player", starts.concat());
+    fli.extend(in_call("tick", ticks.concat()));
+    see(&mut fli, &listed(&player_families::FLI_FAMILIES), 100, base);
+    all.extend(fli);
     all
 }
 

@@ -115,7 +115,7 @@ readings! { TICKS: Players;
         })
     });
     ChecksWhenNothingIsDue = OtherTick(|model, player, bytes, now, shown| {
-        accepted_size(player.width, player.height)?;
+        accepted_size(model.formats.told(player.format), player.width, player.height)?;
         Document.record_fits(player, bytes.len() as u64)?;
         Document.tick(model, player, bytes, now, shown)
     });
@@ -126,7 +126,7 @@ readings! { TICKS: Players;
         Document.draw(model, player, bytes, shown)
     });
     RecordBeforeTickSlices = OtherDraw(|model, player, bytes, shown| {
-        accepted_size(player.width, player.height)?;
+        accepted_size(model.formats.told(player.format), player.width, player.height)?;
         Document.record_fits(player, bytes.len() as u64)?;
         Document.draw(model, player, bytes, shown)
     });
@@ -176,7 +176,7 @@ readings! { TICKS: Players;
         let mut first = State::blank((player.width * player.height) as usize);
         let is_ring = Document.follows(player.number, player.frames) == ring(player.frames);
         let read = model.next_frame(bytes, FILE_HEADER as u64).and_then(|frame| {
-            model.read_frame(&bytes[frame.start..frame.end], player.width, player.height, first.work())
+            model.read_frame(&bytes[frame.start..frame.end], player.format, player.width, player.height, first.work())
         });
         let shows = shown.picture.starts_with(&first.picture) && shown.palette.starts_with(&first.palette);
         if is_ring && read.is_ok() && !shows {
@@ -188,7 +188,7 @@ readings! { TICKS: Players;
     });
     FrameReadAgainstBlank = OtherDraw(|model, player, bytes, shown| {
         let before = held(&shown);
-        let (width, height) = accepted_size(player.width, player.height)?;
+        let (width, height) = accepted_size(model.formats.told(player.format), player.width, player.height)?;
         long_enough(width * height, &[&*shown.picture], &[&*shown.palette])?;
         shown.picture[..width * height].fill(0);
         let again = PairMut { picture: &mut *shown.picture, palette: &mut *shown.palette };
@@ -283,5 +283,55 @@ readings! { REPLAYS: Players;
     StartIsFirstReading = OtherReplay(|model, speed, frames, start, readings, numbers| {
         let start = readings.first().copied().unwrap_or(start);
         Document.replay(model, speed, frames, start, readings, numbers)
+    });
+}
+
+/// A player that is taken for one of another format while it is ticked.
+fn ticked_as(
+    model: &Model,
+    player: &mut Player,
+    bytes: &[u8],
+    (now, format): (u32, u32),
+    shown: PairMut,
+) -> Result<Event, Refusal> {
+    let own = std::mem::replace(&mut player.format, format);
+    let answer = Document.tick(model, player, bytes, now, shown);
+    player.format = own;
+    answer
+}
+
+// What a tick of an FLI can do wrong.
+readings! { FLI_TICKS: Players;
+    FliTickedAsFlc = OtherTick(|model, player, bytes, now, shown| ticked_as(model, player, bytes, (now, 0), shown));
+    TickedByMagic = OtherTick(|model, player, bytes, now, shown| {
+        let format = u32::from(bytes.len() >= FILE_HEADER && size_at(bytes, field::MAGIC) & 0xFFFF == 0xAF11);
+        ticked_as(model, player, bytes, (now, format), shown)
+    });
+    FormatMadeRightByTick = OtherTick(|model, player, bytes, now, shown| {
+        let event = Document.tick(model, player, bytes, now, shown)?;
+        player.format = player.format.min(1);
+        Ok(event)
+    });
+    FormatForgottenByTick = OtherTick(|model, player, bytes, now, shown| {
+        let event = Document.tick(model, player, bytes, now, shown)?;
+        player.format = 0;
+        Ok(event)
+    });
+    FliTicksInJiffies = OtherEvent(|speed, last, now| {
+        Document.event((u64::from(speed) * 70).div_ceil(1_000) as u32, last, now)
+    });
+}
+
+// What a start of an FLI can do wrong.
+readings! { FLI_STARTS: Players;
+    FormatLeftOutAtStart = OtherStartPlayer(|model, bytes, now, first, second| {
+        started(model, bytes, now, (first, second), |player| Player { format: 0, ..player })
+    });
+    SpeedOfFliInJiffies = OtherStartPlayer(|model, bytes, now, first, second| {
+        let in_jiffies = |player: Player| match player.format {
+            0 => player,
+            _ => Player { speed: (u64::from(player.speed) * 70).div_ceil(1_000) as u32, ..player },
+        };
+        started(model, bytes, now, (first, second), in_jiffies)
     });
 }

@@ -5,8 +5,8 @@ use crate::model::build::{Building, Outcome};
 use crate::model::check::Checking;
 use crate::model::playing::{Played, Playing, Screen};
 use crate::model::{
-    accepted_size, field, file_header, number, require, size_at, word_at, Document, FileHeader, Model, Refusal,
-    CHUNK_HEADER, FILE_HEADER, FRAME_HEADER, FRAME_TYPE, MAX_FRAMES, PALETTE_BYTES,
+    accepted_size, field, file_header, number, require, size_at, word_at, Document, FileHeader, Format, Jiffies,
+    Milliseconds, Model, Refusal, CHUNK_HEADER, FILE_HEADER, FRAME_HEADER, FRAME_TYPE, MAX_FRAMES, PALETTE_BYTES,
 };
 use crate::reels::examples::zero_until_close;
 use flic_boundary::{Pair, PairMut, Reel};
@@ -28,9 +28,12 @@ rules! { Checking;
 }
 
 rules! { Building;
-    OtherOpenReel: open_reel(model: &Model, width: u64, height: u64, speed: u32, bytes: &mut [u8]) -> Outcome;
+    OtherOpenReel: open_reel(
+        model: &Model, width: u64, height: u64, speed: Milliseconds, bytes: &mut [u8]
+    ) -> Outcome;
+    OtherOpenFli: open_fli(model: &Model, width: u64, height: u64, jiffies: Jiffies, bytes: &mut [u8]) -> Outcome;
     OtherChecked: checked(
-        reel: Reel, may_go_on: bool, pictures: &[&[u8]], palettes: &[&[u8]]
+        format: Format, reel: Reel, may_go_on: bool, pictures: &[&[u8]], palettes: &[&[u8]]
     ) -> Result<(usize, usize), Refusal>;
     OtherAddFrame: add_frame(model: &Model, reel: Reel, bytes: &mut [u8], shown: Pair, next: Pair) -> Outcome;
     OtherCloseReel: close_reel(model: &Model, reel: Reel, bytes: &mut [u8], first: PairMut, second: PairMut) -> Outcome;
@@ -51,7 +54,7 @@ rules! { Building;
 
 readings! { PLAYING: Playing;
     StepsOverAllButFrame1 = OtherPlay(|model, bytes, place, played| {
-        if played.frames > 0 {
+        if played.frames > 0 && model.frames.frame_header(bytes).is_ok() {
             return Ok(());
         }
         Document.play(model, bytes, place, played)
@@ -93,15 +96,15 @@ readings! { CHECKING: Checking;
         let answer = Document.whole_reel(model, bytes, header, played);
         if answer.is_err_and(|refusal| refusal.number == number::RING_ASTRAY) {
             let without = FileHeader { frames: header.frames - 1, ..*header };
-            *played = Played::from_blank(header.width, header.height);
+            *played = Played::from_blank(header.format, header.width, header.height);
             let _ = Document.whole_reel(model, bytes, &without, played);
         }
         answer
     });
     Frame1AgainstFirstPair = OtherCheckReel(|model, bytes, first, second| {
         let (pictures, palettes) = ([&*first.picture, &*second.picture], [&*first.palette, &*second.palette]);
-        let header = model.headers.accepted(bytes, &pictures, &palettes)?;
-        let mut played = Played::from_blank(header.width, header.height);
+        let header = model.headers.accepted(model, bytes, &Format::BOTH, &pictures, &palettes)?;
+        let mut played = Played::from_blank(header.format, header.width, header.height);
         played.last = Screen::held_by(&first, header.width * header.height);
         Document.play_and_leave(model, bytes, &header, played, first, second)
     });
@@ -155,22 +158,24 @@ readings! { BUILDING: Building;
     });
     RecordOfRefusedOpen = OtherOpenReel(|model, width, height, speed, bytes| {
         let outcome = Document.open_reel(model, width, height, speed, bytes);
-        Outcome { reel: Reel { width, height, frames: 0, end: FILE_HEADER as u64, closed: 0 }, ..outcome }
+        Outcome { reel: Reel { width, height, frames: 0, end: FILE_HEADER as u64, closed: 0, format: 0 }, ..outcome }
     });
-    SizeBeforeClosed = OtherChecked(|reel, may_go_on, pictures, palettes| {
-        accepted_size(reel.width, reel.height)?;
-        Document.checked(reel, may_go_on, pictures, palettes)
+    SizeBeforeClosed = OtherChecked(|format, reel, may_go_on, pictures, palettes| {
+        accepted_size(format, reel.width, reel.height)?;
+        Document.checked(format, reel, may_go_on, pictures, palettes)
     });
     RecordBeforeSlices = OtherAddFrame(|model, reel, bytes, shown, next| {
         let fits = Document.record_fits(reel, bytes.len() as u64).is_ok();
-        if Document.may_add(reel) && accepted_size(reel.width, reel.height).is_ok() && !fits {
+        let format = model.formats.told(reel.format);
+        if Document.may_add(reel) && accepted_size(format, reel.width, reel.height).is_ok() && !fits {
             return refused(reel, number::CUT_SHORT);
         }
         Document.add_frame(model, reel, bytes, shown, next)
     });
     CloseRecordBeforeSlices = OtherCloseReel(|model, reel, bytes, first, second| {
         let fits = Document.record_fits(reel, bytes.len() as u64).is_ok();
-        if Document.may_close(reel) && accepted_size(reel.width, reel.height).is_ok() && !fits {
+        let format = model.formats.told(reel.format);
+        if Document.may_close(reel) && accepted_size(format, reel.width, reel.height).is_ok() && !fits {
             return refused(reel, number::CUT_SHORT);
         }
         Document.close_reel(model, reel, bytes, first, second)
@@ -265,7 +270,8 @@ readings! { BUILDING: Building;
     CloseEarlyEndAtPlace = OtherAllPlayed(|place, end| require(place == end, number::CUT_SHORT, place));
     CloseBadRecordAsFound = OtherCloseReel(|model, reel, bytes, first, second| {
         let (pictures, palettes) = ([&*first.picture, &*second.picture], [&*first.palette, &*second.palette]);
-        let checked = Document.checked(reel, Document.may_close(reel), &pictures, &palettes);
+        let format = model.formats.told(reel.format);
+        let checked = Document.checked(format, reel, Document.may_close(reel), &pictures, &palettes);
         if checked.is_ok() && Document.record_fits(reel, bytes.len() as u64).is_err() {
             return refused(reel, number::CUT_SHORT);
         }
@@ -282,7 +288,8 @@ readings! { BUILDING: Building;
         outcome
     });
     RingFromFrame1 = OtherRing(|model, played| {
-        model.house_frame(played.width, played.height, played.first.shown(), played.first.shown())
+        let Played { format, width, height, .. } = *played;
+        model.house_frame(format, width, height, played.first.shown(), played.first.shown())
     });
     RingFromHandedState = OtherCloseReel(|model, reel, bytes, first, second| {
         let (picture, palette) = (first.picture.to_vec(), first.palette.to_vec());
@@ -293,14 +300,15 @@ readings! { BUILDING: Building;
         }
         let handed = Pair { picture: &picture, palette: &palette };
         let next = Pair { picture: second.picture, palette: second.palette };
-        let ring = model.house_frame(reel.width as usize, reel.height as usize, handed, next);
+        let format = model.formats.told(reel.format);
+        let ring = model.house_frame(format, reel.width as usize, reel.height as usize, handed, next);
         let Ok(end) = Document.append(reel, bytes, &ring) else { return refused(reel, number::SHORT_OUTPUT) };
         file_header::put_double(bytes, field::SIZE, end as u32);
         Outcome { reel: Reel { end, ..outcome.reel }, ..outcome }
     });
     RingToBlank = OtherRing(|model, played| {
-        let blank = Screen::blank(played.width * played.height);
-        model.house_frame(played.width, played.height, played.last.shown(), blank.shown())
+        let Played { format, width, height, .. } = *played;
+        model.house_frame(format, width, height, played.last.shown(), Screen::blank(width * height).shown())
     });
     Oframe2OfOneFrameIs0 = OtherCloseReel(|model, reel, bytes, first, second| {
         let outcome = Document.close_reel(model, reel, bytes, first, second);
@@ -319,7 +327,7 @@ readings! { BUILDING: Building;
     HeaderWrittenAnew = OtherCloseReel(|model, reel, bytes, first, second| {
         let outcome = Document.close_reel(model, reel, bytes, first, second);
         if outcome.answer.is_ok() {
-            let header = model.headers.opened(reel.width as usize, reel.height as usize, 0);
+            let header = model.headers.opened(reel.width as usize, reel.height as usize, Milliseconds(0));
             (0..FILE_HEADER).filter(|at| !zero_until_close(*at)).for_each(|at| bytes[at] = header[at]);
         }
         outcome
@@ -334,5 +342,105 @@ readings! { BUILDING: Building;
     CloseKeepsEnd = OtherCloseReel(|model, reel, bytes, first, second| {
         let outcome = Document.close_reel(model, reel, bytes, first, second);
         Outcome { reel: Reel { end: reel.end, ..outcome.reel }, ..outcome }
+    });
+}
+
+/// A record with another format for a call, and with its own afterwards.
+fn as_format(reel: Reel, format: u32, call: impl FnOnce(Reel) -> Outcome) -> Outcome {
+    let outcome = call(Reel { format, ..reel });
+    let own = if outcome.answer.is_ok() { Format::Fli.number() } else { reel.format };
+    Outcome { reel: Reel { format: if reel.format == 0 { 0 } else { own }, ..outcome.reel }, ..outcome }
+}
+
+// What the builder of an FLI can do wrong.
+readings! { FLI: Building;
+    JiffiesBeforeSize = OtherOpenFli(|model, width, height, jiffies, bytes| {
+        if model.formats.fits(jiffies).is_err() {
+            return refused(Reel::default(), number::BAD_FILE_HEADER);
+        }
+        Document.open_fli(model, width, height, jiffies, bytes)
+    });
+    RoomBeforeJiffies = OtherOpenFli(|model, width, height, jiffies, bytes| {
+        if accepted_size(Format::Fli, width, height).is_ok() && bytes.len() < FILE_HEADER {
+            return refused(Reel::default(), number::SHORT_OUTPUT);
+        }
+        Document.open_fli(model, width, height, jiffies, bytes)
+    });
+    RoomBeforeSizeOfFli = OtherOpenFli(|model, width, height, jiffies, bytes| {
+        if bytes.len() < FILE_HEADER {
+            return refused(Reel::default(), number::SHORT_OUTPUT);
+        }
+        Document.open_fli(model, width, height, jiffies, bytes)
+    });
+    OpenedFliOfAnySize = OtherOpenFli(|model, width, height, jiffies, bytes| {
+        let outcome = Document.open_fli(model, width, height, jiffies, bytes);
+        if is_refused(&outcome, number::BAD_SIZE) && accepted_size(Format::Flc, width, height).is_ok() {
+            let outcome = Document.open_fli(model, 320, 200, jiffies, bytes);
+            return Outcome { reel: Reel { width, height, ..outcome.reel }, ..outcome };
+        }
+        outcome
+    });
+    LongJiffiesCut = OtherOpenFli(|model, width, height, Jiffies(jiffies), bytes| {
+        Document.open_fli(model, width, height, Jiffies(jiffies & 0xFFFF), bytes)
+    });
+    FliOpenClearsRest = OtherOpenFli(|model, width, height, jiffies, bytes| {
+        let outcome = Document.open_fli(model, width, height, jiffies, bytes);
+        if outcome.answer.is_ok() {
+            bytes[FILE_HEADER..].fill(0);
+        }
+        outcome
+    });
+    FliOpenWritesWhenShort = OtherOpenFli(|model, width, height, jiffies, bytes| {
+        let outcome = Document.open_fli(model, width, height, jiffies, bytes);
+        if is_refused(&outcome, number::SHORT_OUTPUT) {
+            bytes.copy_from_slice(&model.headers.opened_fli(jiffies)[..bytes.len()]);
+        }
+        outcome
+    });
+    RecordOfRefusedFli = OtherOpenFli(|model, width, height, jiffies, bytes| {
+        let outcome = Document.open_fli(model, width, height, jiffies, bytes);
+        Outcome { reel: Reel { format: Format::Fli.number(), ..outcome.reel }, ..outcome }
+    });
+    FlcRecordOfFli = OtherOpenFli(|model, width, height, jiffies, bytes| {
+        let outcome = Document.open_fli(model, width, height, jiffies, bytes);
+        Outcome { reel: Reel { format: Format::Flc.number(), ..outcome.reel }, ..outcome }
+    });
+    FlcFrameAddedToFli = OtherAddFrame(|model, reel, bytes, shown, next| {
+        as_format(reel, 0, |reel| Document.add_frame(model, reel, bytes, shown, next))
+    });
+    FliClosedAsFlc = OtherCloseReel(|model, reel, bytes, first, second| {
+        as_format(reel, 0, |reel| Document.close_reel(model, reel, bytes, first, second))
+    });
+    FliPlayedAsFlc = OtherPlayFrame(|model, bytes, end, place, played| {
+        let format = std::mem::replace(&mut played.format, Format::Flc);
+        let after = Document.play_frame(model, bytes, end, place, played);
+        played.format = format;
+        after
+    });
+    RingOfFliByFlcDelta = OtherRing(|model, played| {
+        let Played { width, height, .. } = *played;
+        model.house_frame(Format::Flc, width, height, played.last.shown(), played.first.shown())
+    });
+    AddForgetsFormat = OtherAddFrame(|model, reel, bytes, shown, next| {
+        let outcome = Document.add_frame(model, reel, bytes, shown, next);
+        Outcome { reel: Reel { format: 0, ..outcome.reel }, ..outcome }
+    });
+    CloseForgetsFormat = OtherCloseReel(|model, reel, bytes, first, second| {
+        let outcome = Document.close_reel(model, reel, bytes, first, second);
+        Outcome { reel: Reel { format: 0, ..outcome.reel }, ..outcome }
+    });
+    FormatOfRefusedRecordMadeRight = OtherAddFrame(|model, reel, bytes, shown, next| {
+        let outcome = Document.add_frame(model, reel, bytes, shown, next);
+        Outcome { reel: Reel { format: outcome.reel.format.min(1), ..outcome.reel }, ..outcome }
+    });
+    RecordOfFliOfAnySize = OtherChecked(|_, reel, may_go_on, pictures, palettes| {
+        Document.checked(Format::Flc, reel, may_go_on, pictures, palettes)
+    });
+    SlicesBeforeSizeOfFliRecord = OtherChecked(|format, reel, may_go_on, pictures, palettes| {
+        let checked = Document.checked(Format::Flc, reel, may_go_on, pictures, palettes);
+        match checked {
+            Err(refusal) if refusal.number == number::SHORT_SLICE => checked,
+            _ => Document.checked(format, reel, may_go_on, pictures, palettes),
+        }
     });
 }

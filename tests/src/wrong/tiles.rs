@@ -2,7 +2,7 @@
 
 use super::{readings, rules};
 use crate::model::tiles::{Tiles, BITS, TILE};
-use crate::model::{accepted_size, long_enough, number, require, Document, Refusal};
+use crate::model::{accepted_size, long_enough, number, require, Document, Format, Refusal};
 use flic_boundary::TileRow;
 
 rules! {
@@ -57,12 +57,12 @@ readings! {
         Document.tile_rows(width, height, previous, next, words)
     });
     WordsBeforeSlices = OtherRefusals(|width, height, previous, next, words| {
-        let (_, h) = accepted_size(width, height)?;
+        let (_, h) = accepted_size(Format::Flc, width, height)?;
         require(words >= Document.along(h), number::SHORT_OUTPUT, 0)?;
         Document.tile_rows(width, height, previous, next, words)
     });
     NextNotMeasured = OtherRefusals(|width, height, previous, next, words| {
-        let (w, h) = accepted_size(width, height)?;
+        let (w, h) = accepted_size(Format::Flc, width, height)?;
         long_enough(w * h, &[previous], &[])?;
         require(words >= Document.along(h), number::SHORT_OUTPUT, 0)?;
         long_enough(w * h, &[next], &[]).map_err(|_| Refusal::new(number::SHORT_OUTPUT, 0))?;

@@ -89,7 +89,7 @@ readings! { UNOPENED: TopLevel;
 
 /// The states that the frames of a reel give.
 fn played(bytes: &[u8], header: &FileHeader) -> Result<Played, Refusal> {
-    let mut played = Played::from_blank(header.width, header.height);
+    let mut played = Played::from_blank(header.format, header.width, header.height);
     Document.walk(bytes, header, &mut |chunk| {
         if is_frame(bytes, chunk.start) {
             MODEL.playing.play(&MODEL, &bytes[chunk.start..chunk.end], chunk.start, &mut played)?;

@@ -2,7 +2,7 @@
 
 use super::{readings, rules};
 use crate::model::trailer::{Trailers, Walked, TRAILER};
-use crate::model::{number, require, Document, Model, Refusal, FILE_HEADER};
+use crate::model::{field, number, require, word_at, Document, Format, Model, Refusal, FILE_HEADER};
 
 rules! { Trailers;
     OtherIndexStart: index_start(reel: &Walked) -> usize;
@@ -114,4 +114,33 @@ fn right_but_for(rest: &[u8], wanted: &[u8], unread: std::ops::Range<usize>) -> 
         taken[unread.clone()].copy_from_slice(&rest[unread]);
     }
     Document.is_right(rest, &taken)
+}
+
+/// An FLI's bytes as those of an FLC of the same chunks; others as they are.
+pub fn as_flc(bytes: &[u8]) -> Vec<u8> {
+    let mut bytes = bytes.to_vec();
+    if bytes.len() >= FILE_HEADER && word_at(&bytes, field::MAGIC) == Format::Fli.magic() {
+        bytes[field::MAGIC] = 0x12;
+        bytes[field::FLAGS] ^= 3;
+    }
+    bytes
+}
+
+// What the calls on trailers can do wrong with an FLI.
+readings! { FLI_CHECKED: Trailers;
+    FliTrailerChecked = OtherCheckTrailer(|model, bytes| Document.check_trailer(model, &as_flc(bytes)));
+    FliRefusedAfterItsHeader = OtherCheckTrailer(|model, bytes| {
+        let header = model.read_header(bytes)?;
+        require(header.format == Format::Flc, number::WRONG_TYPE, 0)?;
+        Document.check_trailer(model, bytes)
+    });
+}
+
+readings! { FLI_WRITTEN: Trailers;
+    FliTrailerWritten = OtherWriteTrailer(|model, bytes| {
+        let mut flc = as_flc(bytes);
+        let end = Document.write_trailer(model, &mut flc)?;
+        bytes[FILE_HEADER..].copy_from_slice(&flc[FILE_HEADER..]);
+        Ok(end)
+    });
 }
