@@ -11,7 +11,7 @@ int main(int count, char **words) {
     size_t length = fread(file, 1, sizeof file, in);
     fclose(in);
     printf("version %s, %d\n", FLIC_VERSION, FLIC_VERSION_NUMBER);
-    for (uint32_t number = FLIC_DONE; number <= FLIC_SPARE_BYTES + 1; number++)
+    for (uint32_t number = FLIC_DONE; number <= FLIC_NOT_IN_FLI + 1; number++)
         printf("%u '%s'\n", number, flic_meaning(number));
     flic_answer answer = flic_check_reel(file, length, pictures[0], FLIC_PIXELS_MOST, palettes[0], FLIC_PALETTE,
                                          pictures[1], FLIC_PIXELS_MOST, palettes[1], FLIC_PALETTE);

@@ -1,5 +1,6 @@
 //! The calls of the codec, with their refusals as the crate's.
 
+use crate::format::Format;
 use crate::refusal::{Refusal, Refused, Result};
 use flic_boundary as codec;
 use std::ops::Range;
@@ -27,23 +28,46 @@ fn record(answer: codec::ReelAnswer) -> Result<Record> {
     result(answer.number, answer.place).map(|()| answer.reel)
 }
 
-pub fn read_frame(bytes: &[u8], width: u64, height: u64, shown: PairMut) -> Result<()> {
-    answer(codec::read_frame(bytes, width, height, shown))
+fn number_of(format: Format) -> u32 {
+    match format {
+        Format::Flc => codec::FLC,
+        Format::Fli => codec::FLI,
+    }
 }
 
-pub fn write_frame(width: u64, height: u64, previous: Pair, next: Pair, out: &mut [u8]) -> Result<usize> {
-    length(codec::write_frame(width, height, previous, next, out))
+/// The format that a record or a header has.
+pub fn format_of(number: u32) -> Format {
+    match number {
+        codec::FLC => Format::Flc,
+        _ => Format::Fli,
+    }
+}
+
+pub fn read_frame(bytes: &[u8], format: Format, width: u64, height: u64, shown: PairMut) -> Result<()> {
+    answer(codec::read_frame(bytes, number_of(format), width, height, shown))
+}
+
+pub fn write_frame(
+    format: Format,
+    width: u64,
+    height: u64,
+    previous: Pair,
+    next: Pair,
+    out: &mut [u8],
+) -> Result<usize> {
+    length(codec::write_frame(number_of(format), width, height, previous, next, out))
 }
 
 pub fn rewrite_frame(
     bytes: &[u8],
+    format: Format,
     width: u64,
     height: u64,
     previous: Pair,
     work: PairMut,
     out: &mut [u8],
 ) -> Result<usize> {
-    length(codec::rewrite_frame(bytes, width, height, previous, work, out))
+    length(codec::rewrite_frame(bytes, number_of(format), width, height, previous, work, out))
 }
 
 pub fn check_reel(bytes: &[u8], first: PairMut, second: PairMut) -> Result<()> {
@@ -52,6 +76,10 @@ pub fn check_reel(bytes: &[u8], first: PairMut, second: PairMut) -> Result<()> {
 
 pub fn open_reel(width: u64, height: u64, speed: u32, bytes: &mut [u8]) -> Result<Record> {
     record(codec::open_reel(width, height, speed, bytes))
+}
+
+pub fn open_fli(width: u64, height: u64, jiffies: u32, bytes: &mut [u8]) -> Result<Record> {
+    record(codec::open_fli(width, height, jiffies, bytes))
 }
 
 pub fn add_frame(reel: Record, bytes: &mut [u8], shown: Pair, next: Pair) -> Result<Record> {
@@ -82,6 +110,18 @@ pub fn read_header(bytes: &[u8]) -> Result<codec::Header> {
 pub fn next_frame(bytes: &[u8], at: usize) -> Result<Range<usize>> {
     let span = codec::next_frame(bytes, at as u64);
     result(span.number, span.place).map(|()| span.from as usize..span.end as usize)
+}
+
+fn delay(delay: codec::Delay) -> Result<u32> {
+    result(delay.number, delay.place).map(|()| delay.delay)
+}
+
+pub fn in_milliseconds(jiffies: u32) -> Result<u32> {
+    delay(codec::in_milliseconds(jiffies))
+}
+
+pub fn in_jiffies(milliseconds: u32) -> Result<u32> {
+    delay(codec::in_jiffies(milliseconds))
 }
 
 pub fn search_row(row: &[u8]) -> Result<codec::RowCost> {
@@ -120,17 +160,20 @@ mod tests {
     fn short_slices_and_bad_sizes_are_refused() {
         let (mut picture, mut palette) = ([7; 5], [7; 768]);
         let pair = PairMut { picture: &mut picture, palette: &mut palette };
-        let refused = read_frame(&[], 3, 2, pair).unwrap_err();
+        let refused = read_frame(&[], Format::Flc, 3, 2, pair).unwrap_err();
         assert_eq!((refused.refusal, refused.place), (Refusal::ShortSlice, 0));
         let pair = PairMut { picture: &mut picture, palette: &mut palette };
-        assert_eq!(read_frame(&[], 0, 2, pair).unwrap_err().refusal, Refusal::BadSize);
+        assert_eq!(read_frame(&[], Format::Flc, 0, 2, pair).unwrap_err().refusal, Refusal::BadSize);
+        // Of an FLI a size that an FLC may have is judged first.
+        let pair = PairMut { picture: &mut picture, palette: &mut palette };
+        assert_eq!(read_frame(&[], Format::Fli, 3, 2, pair).unwrap_err().refusal, Refusal::BadSize);
         assert_eq!((picture, palette), ([7; 5], [7; 768]));
     }
 
     /// A reel of two frames, 1 by 1, 50 milliseconds each, started at 0.
     fn started() -> (Vec<u8>, Player) {
         let size = crate::Size::new(1, 1).expect("a size that is taken");
-        let mut reel = crate::Reel::open(size, 50).expect("a reel");
+        let mut reel = crate::Reel::open(size, crate::Milliseconds(50)).expect("a reel");
         let mut state = crate::State::blank(size);
         for pixel in [1, 2] {
             state.picture.pixels_mut()[0] = pixel;
@@ -168,6 +211,8 @@ mod tests {
         assert_eq!(refused(1, |player| player.number = 0), Err((4, 0)));
         assert_eq!(refused(1, |player| player.number = 4), Err((4, 0)));
         assert_eq!(refused(1, |player| player.number = 3), Ok(1));
+        // The record of an FLI has its size.
+        assert_eq!(refused(1, |player| player.format = codec::FLI), Err((2, 0)));
         let end = started().0.len() as u64;
         assert_eq!(refused(1, |player| player.place = started().0.len() as u64), Err((15, end)));
         // The file header, taken for a chunk, has the size of the file.
@@ -181,6 +226,18 @@ mod tests {
         assert_eq!((event, player.last), (Ok(0), 0));
         let (event, player) = altered(u32::MAX, 0, alter);
         assert_eq!((event, player.last), (Ok(2), u32::MAX));
+    }
+
+    #[test]
+    fn more_jiffies_than_an_fli_stores_are_refused() {
+        let number = |result: Result<u32>| result.map_err(|why| (why.refusal.number(), why.place));
+        assert_eq!((number(in_milliseconds(65_535)), number(in_milliseconds(65_536))), (Ok(936_214), Err((14, 0))));
+        let open = |width, jiffies, bytes: &mut [u8]| open_fli(width, 200, jiffies, bytes).map_err(|why| why.refusal);
+        assert_eq!(open(319, 65_536, &mut []), Err(Refusal::BadSize));
+        assert_eq!(open(320, 65_536, &mut []), Err(Refusal::BadHeader));
+        assert_eq!(open(320, 65_535, &mut [0; 127]), Err(Refusal::NoRoom));
+        let opened = open(320, 65_535, &mut [0; 128]).expect("an FLI");
+        assert_eq!(format_of(opened.format), Format::Fli);
     }
 
     #[test]

@@ -25,9 +25,9 @@ impl Chunk {
 /// a reel up to its size; refused as [`check_reel`](crate::check_reel) refuses what lies on the way. No frame is opened.
 ///
 /// ```
-/// use flic::{next_frame, Chunk, Reel, Size, State, FILE_HEADER};
+/// use flic::{next_frame, Chunk, Milliseconds, Reel, Size, State, FILE_HEADER};
 /// let size = Size::new(4, 2)?;
-/// let mut reel = Reel::open(size, 500)?;
+/// let mut reel = Reel::open(size, Milliseconds(500))?;
 /// reel.add(&State::blank(size))?;
 /// let bytes = reel.close()?;
 /// let frame = next_frame(&bytes, FILE_HEADER)?;

@@ -1,4 +1,5 @@
-//! Reads, writes, checks and builds FLC animations (Autodesk Animator Pro) with a codec whose every function is proved.
+//! Reads, writes, checks and builds FLC animations (Autodesk Animator Pro), and FLI animations (the original Animator),
+//! with a codec whose every function is proved.
 //!
 //! A [`Reel`] takes pictures and gives a file; a [`CheckedReel`] is a file that was checked, and gives its frames; a
 //! [`Player`] plays it after a clock, and [`replay`] says what recorded readings of that clock showed. One frame is
@@ -7,11 +8,14 @@
 //! byte of a file is interpreted here: what a header says and where frames lie, [`Header::read`] and [`next_frame`] ask
 //! the codec.
 //!
+//! A file's [`Format`] is told by its header; who builds one opens it with [`Reel::open`] or [`Reel::open_fli`], and who
+//! reads or writes one frame says of which format it is. An FLC counts in [`Milliseconds`], an FLI in [`Jiffies`].
+//!
 //! The codec is `libcapi.a`, which `rt staticlib capi` makes; the environment's `FLIC_LIB_DIR` names the directory that
 //! holds it, if it isn't `target/staticlib` of the repository.
 //!
 //! ```
-//! use flic::{CheckedReel, Reel, Size, State};
+//! use flic::{CheckedReel, Milliseconds, Reel, Size, State};
 //!
 //! let size = Size::new(4, 2)?;
 //! let mut day = State::blank(size);
@@ -20,7 +24,7 @@
 //! let mut night = day.clone();
 //! night.palette.set_colour(1, [0, 0, 80]);
 //!
-//! let mut reel = Reel::open(size, 500)?;
+//! let mut reel = Reel::open(size, Milliseconds(500))?;
 //! reel.add(&day)?;
 //! reel.add(&night)?;
 //! let file = reel.close()?;
@@ -37,6 +41,7 @@
 mod boundary;
 mod checked;
 mod chunk;
+mod format;
 mod frame;
 mod header;
 mod listing;
@@ -51,6 +56,7 @@ mod trailer;
 
 pub use checked::{check_reel, CheckedReel, Frame, Laps, Shown};
 pub use chunk::{next_frame, Chunk};
+pub use format::{Format, Jiffies, Milliseconds};
 pub use frame::{read_frame, rewrite_frame, write_frame, Rewritten};
 pub use header::{Header, FILE_HEADER};
 pub use listing::{list, LISTED_MOST};
@@ -75,6 +81,9 @@ mod tests {
             ("FLIC_WIDTH_MOST", largest.width().into()),
             ("FLIC_HEIGHT_MOST", largest.height().into()),
             ("FLIC_PIXELS_MOST", largest.pixels()),
+            ("FLIC_FLI_WIDTH", Size::FLI.width().into()),
+            ("FLIC_FLI_HEIGHT", Size::FLI.height().into()),
+            ("FLIC_JIFFIES_MOST", u16::MAX.into()),
             ("FLIC_FRAMES_MOST", MOST_FRAMES),
             ("FLIC_PALETTE", PALETTE),
             ("FLIC_FILE_HEADER", FILE_HEADER),

@@ -6,13 +6,13 @@ use crate::refusal::{Refusal, Refused, Result};
 /// The most bytes of a file that is listed.
 pub const LISTED_MOST: usize = 65_536;
 
-/// Lists a file's chunks: the size and the frames, then a line for each chunk with depth, offset, kind and size, then
-/// `ok`. A file of more than [`LISTED_MOST`] bytes is refused 3.
+/// Lists the chunks of an FLC: the size and the frames, then a line for each chunk with depth, offset, kind and size, then
+/// `ok`. A file of more than [`LISTED_MOST`] bytes is refused 3, and an FLI 5.
 ///
 /// ```
-/// use flic::{list, Reel, Size, State};
+/// use flic::{list, Milliseconds, Reel, Size, State};
 /// let size = Size::new(1, 1)?;
-/// let mut reel = Reel::open(size, 200)?;
+/// let mut reel = Reel::open(size, Milliseconds(200))?;
 /// reel.add(&State::blank(size))?;
 /// let file = reel.close()?;
 /// assert_eq!(list(&file)?, "flic 1 1 1\n0 128 61946 16\n0 144 61946 16\nok\n");

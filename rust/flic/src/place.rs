@@ -42,7 +42,7 @@ impl fmt::Display for Part {
 /// ```
 /// use flic::{check_reel, part_of, Part, Reel, Size, State};
 /// # let size = Size::new(8, 1)?;
-/// # let mut reel = Reel::open(size, 200)?;
+/// # let mut reel = Reel::open(size, flic::Milliseconds(200))?;
 /// # reel.add(&State::blank(size))?;
 /// # reel.add(&State::blank(size))?;
 /// # let mut bytes = reel.close()?;
@@ -65,7 +65,7 @@ pub fn part_of(bytes: &[u8], refused: Refused) -> Part {
     let of = usize::from(header.frames);
     let mut state = State::blank(size);
     let mut is_at_fault = |frame: &Chunk| {
-        let fault = read_frame(&bytes[frame.offset..frame.end()], &mut state).err();
+        let fault = read_frame(&bytes[frame.offset..frame.end()], header.format, &mut state).err();
         fault.is_some_and(|fault| frame.offset as u64 + fault.place == refused.place)
     };
     let before = frame_chunks(bytes, &header).take_while(|frame| !is_at_fault(frame)).count();
@@ -79,13 +79,14 @@ pub fn part_of(bytes: &[u8], refused: Refused) -> Part {
 mod tests {
     use super::*;
     use crate::checked::check_reel;
+    use crate::format::Milliseconds;
     use crate::reel::Reel;
     use crate::trailer::check_trailer;
 
     /// Three frames of 2 by 1 pixels, the first with pixels other than 0, so that it holds a COPY of 8 bytes.
     fn reel() -> Vec<u8> {
         let size = Size::new(2, 1).expect("a size that is taken");
-        let mut reel = Reel::open(size, 70).expect("a reel");
+        let mut reel = Reel::open(size, Milliseconds(70)).expect("a reel");
         for pixel in [1, 1, 3] {
             let mut state = State::blank(size);
             state.picture.pixels_mut().copy_from_slice(&[pixel, pixel + 1]);

@@ -1,6 +1,7 @@
 //! A player that keeps time by a clock that rolls over, and the replay of recorded readings of that clock.
 
 use crate::boundary;
+use crate::format::{Format, Milliseconds};
 use crate::header::Header;
 use crate::refusal::Result;
 use crate::state::{Size, State};
@@ -16,7 +17,7 @@ const HALF_RANGE: u32 = 1 << 31;
 /// ```
 /// use flic::{Event, Player, Reel, Size, State};
 /// # let size = Size::new(8, 1)?;
-/// # let mut reel = Reel::open(size, 200)?;
+/// # let mut reel = Reel::open(size, flic::Milliseconds(200))?;
 /// # let mut state = State::blank(size);
 /// # for pixel in [10, 20] {
 /// #     state.picture.pixels_mut().fill(pixel);
@@ -105,14 +106,19 @@ impl<B> Player<B> {
         self.record.number > self.record.frames
     }
 
-    /// For how many milliseconds a frame shows: 0 is a frame at each tick, half the clock's range or more is for ever.
-    pub fn speed(&self) -> u32 {
-        self.record.speed
+    /// The format of the reel.
+    pub fn format(&self) -> Format {
+        boundary::format_of(self.record.format)
+    }
+
+    /// For how long a frame shows, in an FLI too: 0 is a frame at each tick, half the clock's range or more is for ever.
+    pub fn speed(&self) -> Milliseconds {
+        Milliseconds(self.record.speed)
     }
 
     /// Sets another speed than the reel's own, from the frame that shows on.
-    pub fn set_speed(&mut self, speed: u32) {
-        self.record.speed = speed;
+    pub fn set_speed(&mut self, speed: Milliseconds) {
+        self.record.speed = speed.0;
     }
 
     /// For how many milliseconds, from this reading on, ticks do nothing: a caller can sleep as long. 0 where the next
@@ -127,15 +133,16 @@ impl<B> Player<B> {
 /// the reading `start` on a reel with this speed and so many frames. Refused 14 where these aren't 1 to 4,000.
 ///
 /// ```
+/// use flic::{replay, Milliseconds};
 /// // 3 frames of 100 milliseconds; the ring is number 4, and leads to frame 2.
-/// let numbers = flic::replay(100, 3, 5_000, &[5_099, 5_100, 5_250, 5_300, 5_400, 5_500])?;
+/// let numbers = replay(Milliseconds(100), 3, 5_000, &[5_099, 5_100, 5_250, 5_300, 5_400, 5_500])?;
 /// assert_eq!(numbers, [1, 2, 3, 4, 2, 3]);
-/// assert_eq!(flic::replay(100, 0, 5_000, &[]).unwrap_err().refusal.number(), 14);
+/// assert_eq!(replay(Milliseconds(100), 0, 5_000, &[]).unwrap_err().refusal.number(), 14);
 /// # Ok::<(), flic::Refused>(())
 /// ```
-pub fn replay(speed: u32, frames: usize, start: u32, readings: &[u32]) -> Result<Vec<usize>> {
+pub fn replay(speed: Milliseconds, frames: usize, start: u32, readings: &[u32]) -> Result<Vec<usize>> {
     let mut numbers = vec![0; readings.len()];
-    let written = boundary::replay(speed, frames, start, readings, &mut numbers)?;
+    let written = boundary::replay(speed.0, frames, start, readings, &mut numbers)?;
     Ok(numbers[..written].iter().map(|number| *number as usize).collect())
 }
 
@@ -143,6 +150,7 @@ pub fn replay(speed: u32, frames: usize, start: u32, readings: &[u32]) -> Result
 mod tests {
     use super::*;
     use crate::checked::CheckedReel;
+    use crate::format::Jiffies;
     use crate::reel::{Reel, MOST_FRAMES};
     use crate::refusal::{Refusal, Refused};
     use std::cell::Cell;
@@ -150,7 +158,12 @@ mod tests {
 
     fn reel(frames: u8, speed: u32) -> Vec<u8> {
         let size = Size::new(7, 3).expect("a size that is taken");
-        let mut reel = Reel::open(size, speed).expect("a reel");
+        filled(Reel::open(size, Milliseconds(speed)).expect("a reel"), frames)
+    }
+
+    /// The reel with so many frames, closed.
+    fn filled(mut reel: Reel, frames: u8) -> Vec<u8> {
+        let size = reel.size();
         for number in 1..=frames {
             let mut state = State::blank(size);
             state.picture.pixels_mut()[..usize::from(number)].fill(number);
@@ -219,7 +232,11 @@ mod tests {
             let bytes = reel(frames, speed);
             let readings = readings(seed, speed, 3_000);
             let expected = plain(speed, frames.into(), readings[0], &readings);
-            assert_eq!(replay(speed, frames.into(), readings[0], &readings)?, expected, "{speed}, {frames}");
+            assert_eq!(
+                replay(Milliseconds(speed), frames.into(), readings[0], &readings)?,
+                expected,
+                "{speed}, {frames}"
+            );
             let mut player = Player::start(&bytes, readings[0])?;
             let shown: Vec<State> = CheckedReel::new(&bytes)?.frames().map(|frame| frame.state).collect();
             let mut met = [0; 3];
@@ -234,13 +251,28 @@ mod tests {
     }
 
     #[test]
+    fn an_fli_is_played_by_milliseconds() -> Result<()> {
+        let bytes = filled(Reel::open_fli(Jiffies(18))?, 3);
+        let shown: Vec<State> = CheckedReel::new(&bytes)?.frames().map(|frame| frame.state).collect();
+        let mut player = Player::start(&bytes, 1_000)?;
+        assert_eq!((player.format(), player.speed()), (Format::Fli, Milliseconds(257)));
+        for (lap, number) in (0..3).flat_map(|lap| (2..=4).map(move |number| (lap, number))) {
+            let due = 1_000 + 257 * (3 * lap + number as u32 - 1);
+            assert_eq!((player.tick(due - 1)?, player.tick(due)?), (Event::Nothing, Event::Drawn));
+            assert_eq!((player.number(), player.shown()), (number, &shown[number - 1]));
+        }
+        Ok(())
+    }
+
+    #[test]
     fn speeds_from_half_the_range_on_draw_nothing() -> Result<()> {
         let readings: Vec<u32> = (0..64).map(|at| at << 26).collect();
-        assert_eq!(replay(HALF_RANGE, 2, 0, &readings)?, [1; 64]);
-        assert_eq!(replay(HALF_RANGE - 1, 2, 0, &[HALF_RANGE - 2, HALF_RANGE - 1, HALF_RANGE])?, [1, 2, 2]);
+        assert_eq!(replay(Milliseconds(HALF_RANGE), 2, 0, &readings)?, [1; 64]);
+        let around = [HALF_RANGE - 2, HALF_RANGE - 1, HALF_RANGE];
+        assert_eq!(replay(Milliseconds(HALF_RANGE - 1), 2, 0, &around)?, [1, 2, 2]);
         let mut player = Player::start(reel(2, u32::MAX), 0)?;
         assert_eq!((player.tick(HALF_RANGE - 1)?, player.tick(HALF_RANGE)?), (Event::Nothing, Event::SetBack));
-        assert_eq!((player.number(), player.speed()), (1, u32::MAX));
+        assert_eq!((player.number(), player.speed()), (1, Milliseconds(u32::MAX)));
         Ok(())
     }
 
@@ -248,7 +280,7 @@ mod tests {
     fn nothing_happens_as_long_as_one_has_to_wait() -> Result<()> {
         for speed in [0, 1, 100, 1 << 20, HALF_RANGE - 1, HALF_RANGE, u32::MAX] {
             let mut player = Player::start(reel(2, 100), 50)?;
-            player.set_speed(speed);
+            player.set_speed(Milliseconds(speed));
             for now in [50, 51, 149, 150, 20_000, 49, 50 + HALF_RANGE - 1, 50 + HALF_RANGE, u32::MAX] {
                 let wait = player.wait(now);
                 if wait > 0 {
@@ -263,8 +295,9 @@ mod tests {
     #[test]
     fn another_speed_counts_from_the_frame_that_shows_on() -> Result<()> {
         let mut player = Player::start(reel(3, 1_000), 0)?;
-        assert_eq!((player.frames(), player.speed(), player.tick(500)?), (3, 1_000, Event::Nothing));
-        player.set_speed(200);
+        assert_eq!((player.frames(), player.speed()), (3, Milliseconds(1_000)));
+        assert_eq!(player.tick(500)?, Event::Nothing);
+        player.set_speed(Milliseconds(200));
         let events = [player.tick(500)?, player.tick(500)?, player.tick(500)?];
         assert_eq!((events, player.number()), ([Event::Drawn, Event::Drawn, Event::Nothing], 3));
         Ok(())
@@ -316,11 +349,12 @@ mod tests {
     #[test]
     fn a_replay_takes_as_many_frames_as_a_reel_has() -> Result<()> {
         let refused = Err(Refused { refusal: Refusal::BadHeader, place: 0 });
-        assert_eq!((replay(1, 0, 0, &[1]), replay(1, MOST_FRAMES + 1, 0, &[1])), (refused.clone(), refused));
+        let one = |frames, readings: &[u32]| replay(Milliseconds(1), frames, 0, readings);
+        assert_eq!((one(0, &[1]), one(MOST_FRAMES + 1, &[1])), (refused.clone(), refused));
         let readings: Vec<u32> = (1..=4_002).collect();
-        let numbers = replay(1, MOST_FRAMES, 0, &readings)?;
+        let numbers = one(MOST_FRAMES, &readings)?;
         assert_eq!(numbers[3_998..], [4_000, 4_001, 2, 3]);
-        assert_eq!(replay(1, 1, 0, &[])?, []);
+        assert_eq!(one(1, &[])?, []);
         Ok(())
     }
 }

@@ -11,14 +11,14 @@ use std::fmt;
 pub enum Refusal {
     /// A picture or palette that was lent is too short.
     ShortSlice = 1,
-    /// The width isn't 1 to 320, or the height not 1 to 200; given by this crate too where two states that belong
-    /// together differ in size.
+    /// The width isn't 1 to 320, or the height not 1 to 200, or an FLI isn't 320 by 200; given by this crate too where
+    /// two states that belong together differ in size.
     BadSize = 2,
     /// The output is too short.
     NoRoom = 3,
     /// The bytes end too soon, or a size runs past what encloses it.
     Cut = 4,
-    /// Not a FLC file, or not a frame of one.
+    /// Neither an FLC nor an FLI file, or not a frame of one, or an FLI where only an FLC is taken.
     WrongType = 5,
     /// A size is less than its own header.
     SmallSize = 6,
@@ -36,7 +36,8 @@ pub enum Refusal {
     PastPalette = 12,
     /// A colour level is over 63.
     OverLevel = 13,
-    /// The depth isn't 8, the frames aren't 1 to 4,000, or the flags aren't 3.
+    /// The depth isn't 8, the frames aren't 1 to 4,000, the flags aren't 3 (in an FLI 0), or a delay is over 65,535
+    /// jiffies.
     BadHeader = 14,
     /// Frames or the ring are missing.
     FewFrames = 15,
@@ -48,13 +49,15 @@ pub enum Refusal {
     WrongTime = 18,
     /// More than one spare byte stands behind a chunk's data.
     SpareBytes = 19,
+    /// An FLI holds a chunk of kind 7 or 18, which only an FLC may hold.
+    NotInFli = 20,
 }
 
 use Refusal::*;
 
 impl Refusal {
     /// Every refusal, in the order of the numbers.
-    pub const ALL: [Refusal; 19] = [
+    pub const ALL: [Refusal; 20] = [
         ShortSlice,
         BadSize,
         NoRoom,
@@ -74,6 +77,7 @@ impl Refusal {
         BadTrailer,
         WrongTime,
         SpareBytes,
+        NotInFli,
     ];
 
     /// The number by which the C boundary and the papers call it.
@@ -96,10 +100,12 @@ impl Refusal {
     pub fn meaning(self) -> &'static str {
         match self {
             ShortSlice => "a picture has fewer pixels than width times height, or a palette fewer than 768 bytes",
-            BadSize => "the width isn't 1 to 320, the height isn't 1 to 200, or two pictures differ in size",
+            BadSize => {
+                "the width isn't 1 to 320, the height isn't 1 to 200, an FLI isn't 320 by 200, or two pictures differ in size"
+            }
             NoRoom => "there is no room for what is to be written",
             Cut => "the bytes end too soon, or a size runs past what encloses it",
-            WrongType => "this isn't a FLC file, or not a frame of one",
+            WrongType => "this is no FLC or FLI file, or no frame of one, or an FLI where an FLC is asked for",
             SmallSize => "a size is less than its own header",
             BodyEnds => "a chunk ends before its data",
             ZeroCount => "a BRUN packet has count 0",
@@ -108,12 +114,15 @@ impl Refusal {
             BadWord => "a delta chunk holds a word that has no meaning there",
             PastPalette => "a colour packet runs past entry 255",
             OverLevel => "a colour level is over 63",
-            BadHeader => "the depth isn't 8, the frames aren't 1 to 4,000, or the file was never closed",
+            BadHeader => {
+                "the depth isn't 8, the frames aren't 1 to 4,000, the flags aren't those of a closed file, or a delay is over 65,535 jiffies"
+            }
             FewFrames => "frames or the ring are missing",
             BadRing => "the ring doesn't lead back to frame 1",
             BadTrailer => "what stands behind the reel isn't its trailer",
             WrongTime => "a reel takes 1 to 4,000 frames, and is closed once",
             SpareBytes => "more than one spare byte stands behind a chunk's data",
+            NotInFli => "an FLI holds a chunk of kind 7 or 18, which only an FLC may hold",
         }
     }
 
@@ -134,6 +143,7 @@ impl Refusal {
             BadTrailer => "write the trailer anew",
             WrongTime => "open a new reel",
             SpareBytes => "the tool that wrote the file left old bytes in it: make the file anew with another",
+            NotInFli => "a board that takes FLI can't draw it: make the file anew",
         }
     }
 }
@@ -148,7 +158,8 @@ impl fmt::Display for Refusal {
 ///
 /// ```
 /// let refused = flic::check_reel(&[0; 200]).unwrap_err();
-/// let text = "refused 5 at offset 0: this isn't a FLC file, or not a frame of one; check which file it is";
+/// let text = "refused 5 at offset 0: this is no FLC or FLI file, or no frame of one, or an FLI where an FLC is asked for; \
+///             check which file it is";
 /// assert_eq!(refused.to_string(), text);
 /// ```
 ///
@@ -189,11 +200,11 @@ mod tests {
     use super::*;
 
     #[test]
-    fn numbers_run_from_1_to_19_and_lead_back() {
+    fn numbers_run_from_1_to_20_and_lead_back() {
         let numbers: Vec<u32> = Refusal::ALL.iter().map(|refusal| refusal.number()).collect();
-        assert_eq!(numbers, (1..=19).collect::<Vec<u32>>());
+        assert_eq!(numbers, (1..=20).collect::<Vec<u32>>());
         assert!(Refusal::ALL.iter().all(|refusal| Refusal::with_number(refusal.number()) == Some(*refusal)));
-        assert_eq!((Refusal::with_number(0), Refusal::with_number(20)), (None, None));
+        assert_eq!((Refusal::with_number(0), Refusal::with_number(21)), (None, None));
     }
 
     #[test]

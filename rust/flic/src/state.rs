@@ -16,6 +16,9 @@ pub struct Size {
 }
 
 impl Size {
+    /// The size of every picture of an FLI, 320 by 200, which is the largest of an FLC too.
+    pub const FLI: Size = Size { width: 320, height: 200 };
+
     /// Refused 2 where the codec doesn't take it: the width is 1 to 320, the height 1 to 200.
     ///
     /// ```

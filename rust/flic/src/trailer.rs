@@ -10,18 +10,18 @@ const TRAILER: usize = 8;
 /// No index and trailer have more bytes.
 pub const TRAILER_MOST: usize = ENTRY * (MOST_FRAMES + 1) + TRAILER;
 
-/// Checks what stands behind a reel: nothing, or its index and trailer; anything else is refused 17.
-/// Opens no frame: a damaged one is found by [`check_reel`](crate::check_reel).
+/// Checks what stands behind an FLC's reel: nothing, or its index and trailer; anything else is refused 17, and an FLI,
+/// which has no trailer, 5. Opens no frame: a damaged one is found by [`check_reel`](crate::check_reel).
 pub fn check_trailer(bytes: &[u8]) -> Result<()> {
     boundary::check_trailer(bytes)
 }
 
-/// Makes the reel's index and trailer all that stands behind it; a refusal leaves the file as it was.
+/// Makes the index and trailer of an FLC's reel all that stands behind it; a refusal leaves the file as it was.
 ///
 /// ```
-/// use flic::{check_trailer, write_trailer, Reel, Size, State};
+/// use flic::{check_trailer, write_trailer, Milliseconds, Reel, Size, State};
 /// let size = Size::new(1, 1)?;
-/// let mut reel = Reel::open(size, 200)?;
+/// let mut reel = Reel::open(size, Milliseconds(200))?;
 /// reel.add(&State::blank(size))?;
 /// let mut file = reel.close()?;
 /// write_trailer(&mut file)?;
@@ -50,13 +50,14 @@ pub fn write_trailer(file: &mut Vec<u8>) -> Result<()> {
 #[cfg(test)]
 mod tests {
     use super::*;
+    use crate::format::{Jiffies, Milliseconds};
     use crate::reel::Reel;
     use crate::refusal::Refused;
     use crate::state::{Size, State};
 
     fn reel(frames: usize) -> Vec<u8> {
         let size = Size::new(3, 1).expect("a size that is taken");
-        let mut reel = Reel::open(size, 70).expect("a reel");
+        let mut reel = Reel::open(size, Milliseconds(70)).expect("a reel");
         (0..frames).for_each(|_| reel.add(&State::blank(size)).expect("a frame"));
         reel.close().expect("a file")
     }
@@ -93,5 +94,17 @@ mod tests {
             assert_eq!(write_trailer(&mut file), Err(Refused { refusal: Refusal::Cut, place: 0 }), "{length}");
             assert_eq!(file, whole[..length]);
         }
+    }
+
+    #[test]
+    fn an_fli_has_no_trailer() -> Result<()> {
+        let mut reel = Reel::open_fli(Jiffies(7))?;
+        reel.add(&State::blank(Size::FLI))?;
+        let mut file = reel.close()?;
+        let (before, refused) = (file.clone(), Err(Refused { refusal: Refusal::WrongType, place: 0 }));
+        assert_eq!((check_trailer(&file), write_trailer(&mut file)), (refused, refused));
+        assert_eq!(file, before);
+        assert_eq!(crate::list(&file).map(drop), refused);
+        Ok(())
     }
 }

@@ -47,7 +47,7 @@ fn with_wrong_ring(bytes: &[u8]) -> Result<Vec<u8>, Box<dyn Error>> {
     }
     let ring = reel.frame_chunks()[states.len() - 1];
     let mut wrong = bytes[..ring.offset].to_vec();
-    wrong.extend(write_frame(&before, first)?);
+    wrong.extend(write_frame(reel.format(), &before, first)?);
     let size = u32::try_from(wrong.len())?;
     wrong[..4].copy_from_slice(&size.to_le_bytes());
     Ok(wrong)
@@ -58,7 +58,7 @@ fn shown(bytes: &[u8], chunks: &[Chunk]) -> flic::Result<[State; 2]> {
     let header = flic::Header::read(bytes)?;
     let mut state = State::blank(flic::Size::new(header.width, header.height)?);
     let mut play = |chunks: &[Chunk]| -> flic::Result<State> {
-        chunks.iter().try_for_each(|chunk| read_frame(&bytes[chunk.offset..chunk.end()], &mut state))?;
+        chunks.iter().try_for_each(|chunk| read_frame(&bytes[chunk.offset..chunk.end()], header.format, &mut state))?;
         Ok(state.clone())
     };
     Ok([play(&chunks[..FRAME])?, play(&[&chunks[FRAME..], &chunks[1..FRAME]].concat())?])

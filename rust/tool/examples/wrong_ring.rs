@@ -21,7 +21,7 @@ fn with_wrong_ring(bytes: &[u8]) -> Result<Vec<u8>, Box<dyn Error>> {
         return Err("a reel has a frame and a ring".into());
     };
     let mut wrong = bytes[..ring.offset].to_vec();
-    wrong.extend(write_frame(&first.state, &first.state)?);
+    wrong.extend(write_frame(reel.format(), &first.state, &first.state)?);
     let size = u32::try_from(wrong.len())?;
     wrong[..4].copy_from_slice(&size.to_le_bytes());
     Ok(wrong)

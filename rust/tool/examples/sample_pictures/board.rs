@@ -1,7 +1,7 @@
 //! A board for a day and a night: 48 pictures of 320 by 200, half an hour each, from midnight on. Dishes with prices, a
 //! clock, a line that runs, steam over a bowl, and a window in which colours alone make day of night.
 //!
-//! All levels are such as the old boards have, 64 of them, so that a FLI file can show the same.
+//! All levels are such as the old boards have, 64 of them, so that an FLI can show the same.
 
 use super::canvas::{Canvas, Colour};
 

@@ -4,14 +4,16 @@ use super::Command;
 use crate::tool::arguments::{Arguments, Opt};
 use crate::tool::failure::{misused, Failure, Outcome};
 use crate::tool::files;
+use crate::tool::formats::{ending, named};
 use crate::tool::json::Json;
 use crate::tool::name::Shown;
 use crate::tool::numbers::grouped;
 use crate::tool::progress::Progress;
 use crate::tool::refused::Told;
 use crate::tool::say::{complain, say};
+use crate::tool::stored::format_of;
 use crate::tool::walk::{is_folder, reels};
-use flic::{check_reel, check_trailer, Header};
+use flic::{check_reel, check_trailer, Format, Header};
 use std::path::Path;
 
 pub const JSON: Opt = Opt { name: "--json", value: None, about: "says it as JSON, for programs" };
@@ -21,10 +23,12 @@ pub const COMMAND: Command = Command {
     usage: "FILE.. [-q] [--json]",
     summary: "plays every frame and the ring, and checks the trailer",
     about: "\
-Plays every frame and the ring of each file, and checks what stands behind the reel, if anything does. A FILE may be a
-folder: every file .flc and .fli in it is checked, and in the folders within it.
+Plays every frame and the ring of each file, and checks what stands behind the reel of an FLC, if anything does. A file
+is an FLC or an FLI by its magic, whatever its name. A FILE may be a folder: every file .flc and .fli in it is checked,
+and in the folders within it.
 Prints 'FILE: ok', or the refusal's number, its offset, the frame in which it lies, what was found, and what to do; of
-several files also how many are ok and how many refused, last. A file may be of any size.
+several files also how many are ok and how many refused, last. A name that stands for the other format is said. A file
+may be of any size.
 Exit status 1 if any file is refused or can't be read, or a folder holds none.",
     options: &[Opt { name: "-q", value: None, about: "prints only what is refused" }, JSON],
     run,
@@ -45,11 +49,18 @@ fn run(arguments: Arguments) -> Outcome {
     report.finish()
 }
 
-/// What is wrong with the file, or nothing.
-fn verdict(file: &Path) -> Outcome<Option<Told>> {
+/// What a file is found to be.
+struct Verdict {
+    /// By the magic.
+    format: Option<Format>,
+    /// What is wrong with it, if anything is.
+    told: Option<Told>,
+}
+
+fn verdict(file: &Path) -> Outcome<Verdict> {
     let _progress = Progress::new(format!("checking {}", file.shown()), 0);
     let bytes = files::read_reel(file)?;
-    Ok(checked(&bytes).err().map(|why| Told::of(&bytes, why)))
+    Ok(Verdict { format: format_of(&bytes), told: checked(&bytes).err().map(|why| Told::of(&bytes, why)) })
 }
 
 /// Checks the reel, and what stands behind it.
@@ -58,9 +69,10 @@ pub fn checked(bytes: &[u8]) -> flic::Result<()> {
     checked_behind(bytes)
 }
 
-/// Checks what stands behind a reel that is right.
+/// Checks what stands behind a reel that is right; an FLI has no trailer, and what stands behind it is of no concern.
 pub fn checked_behind(bytes: &[u8]) -> flic::Result<()> {
-    match bytes.len() > Header::read(bytes)?.size as usize {
+    let header = Header::read(bytes)?;
+    match header.format == Format::Flc && bytes.len() > header.size as usize {
         true => check_trailer(bytes),
         false => Ok(()),
     }
@@ -84,18 +96,21 @@ impl Report {
         Report { is_quiet, json: is_json.then(Vec::new), ..Report::default() }
     }
 
-    fn take(&mut self, file: &Path, verdict: Outcome<Option<Told>>) -> Outcome {
-        let (count, error, told) = match verdict {
-            Ok(None) => (&mut self.ok, None, None),
-            Ok(told) => (&mut self.refused, None, told),
-            Err(Failure::Wrong(words)) => (&mut self.unread, Some(words), None),
+    fn take(&mut self, file: &Path, verdict: Outcome<Verdict>) -> Outcome {
+        let (error, Verdict { format, told }) = match verdict {
+            Ok(verdict) => (None, verdict),
+            Err(Failure::Wrong(words)) => (Some(words), Verdict { format: None, told: None }),
             Err(other) => return Err(other),
         };
-        *count += 1;
+        *match (&error, &told) {
+            (None, None) => &mut self.ok,
+            (None, Some(_)) => &mut self.refused,
+            (Some(_), _) => &mut self.unread,
+        } += 1;
         match (&mut self.json, error, told) {
             (Some(files), error, told) => {
                 if !(self.is_quiet && error.is_none() && told.is_none()) {
-                    files.push(value(file, error, told.as_ref()));
+                    files.push(value(file, error, format, told.as_ref()));
                 }
                 Ok(())
             }
@@ -105,7 +120,7 @@ impl Report {
             }
             (None, None, Some(told)) => say(&format!("{}: {told}\n", file.shown())),
             (None, None, None) if self.is_quiet => Ok(()),
-            (None, None, None) => say(&format!("{}: ok\n", file.shown())),
+            (None, None, None) => say(&format!("{}: ok{}\n", file.shown(), misnamed(file, format))),
         }
     }
 
@@ -133,9 +148,21 @@ impl Report {
     }
 }
 
-fn value(file: &Path, error: Option<String>, told: Option<&Told>) -> Json {
+/// What is said of a right reel whose name stands for the other format, which a board may go by.
+fn misnamed(file: &Path, format: Option<Format>) -> String {
+    match (named(file), format) {
+        (Some(name), Some(format)) if name != format => format!(
+            ", but it is an {format}: rename it to end in {}, or make an {name} of it with flic convert",
+            ending(format)
+        ),
+        _ => String::new(),
+    }
+}
+
+fn value(file: &Path, error: Option<String>, format: Option<Format>, told: Option<&Told>) -> Json {
     Json::Object(vec![
         ("file", Json::name(file)),
+        ("format", Json::format(format)),
         ("ok", Json::Bool(error.is_none() && told.is_none())),
         ("refusal", Json::refusal(told)),
         ("error", error.map_or(Json::Null, Json::Text)),

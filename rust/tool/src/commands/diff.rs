@@ -5,6 +5,7 @@ use crate::tool::arguments::{Arguments, Opt};
 use crate::tool::drawing::Colour;
 use crate::tool::failure::{misused, wrong, Failure, Outcome};
 use crate::tool::folder::Folder;
+use crate::tool::formats::delay;
 use crate::tool::image::Image;
 use crate::tool::name::Shown;
 use crate::tool::numbers::counted;
@@ -21,7 +22,8 @@ pub const COMMAND: Command = Command {
     about: "\
 Plays both reels and compares what shows after each frame and after the ring: a line for each that differs, with how
 many pixels look different, and how many colours of the palette are others. Exit status 1 if anything differs, or the
-size, the speed or the number of frames. A reel with a wrong ring is compared too, and said to be refused.
+size, the speed or the number of frames. A reel with a wrong ring is compared too, and said to be refused. An FLC and an
+FLI are compared by what they show: that they are of two formats is said, and is no difference.
 
 With --png every frame that differs is written to DIR, which is made, or is empty: A's picture, B's picture, and A's in
 grey with the pixels in red that look different.",
@@ -48,11 +50,11 @@ fn run(arguments: Arguments) -> Outcome {
     let folder = directory.as_deref().map(Folder::begin).transpose()?;
     let mut report = Report { folder, names: files.map(|file| file.shown()), differing: 0 };
     let others = report.other_differences(&reels)?;
-    let played = if reels[0].size == reels[1].size { report.frames(&reels)? } else { 0 };
+    let compared = report.frames(&reels)?;
     // An empty one is left unfinished, and so isn't left.
     let filled = report.folder.take().filter(|_| report.differing > 0);
     filled.map(Folder::finish).transpose()?;
-    report.sum(others, played, directory.as_deref())
+    report.sum(others, compared, directory.as_deref())
 }
 
 /// A reel whose frames can all be read, whether or not its ring leads back.
@@ -82,11 +84,18 @@ impl Reel {
         (0..=self.header.frames).map(move |_| {
             let reel = &self.bytes[..self.header.size as usize];
             let frame = next_frame(reel, at).expect("the check has found it");
-            read_frame(&reel[frame.offset..frame.end()], &mut state).expect("the check has read it");
+            read_frame(&reel[frame.offset..frame.end()], self.header.format, &mut state)
+                .expect("the check has read it");
             at = frame.end();
             state.clone()
         })
     }
+}
+
+/// How many pictures were compared, and whether these are all that both reels have.
+struct Compared {
+    count: usize,
+    is_all: bool,
 }
 
 /// What is told of two reels.
@@ -99,22 +108,34 @@ struct Report<'a> {
 impl Report<'_> {
     /// Says what differs beside the frames; gives whether anything does.
     fn other_differences(&self, reels: &[Reel; 2]) -> Outcome<bool> {
-        let each = |what: fn(&Reel) -> String| [what(&reels[0]), what(&reels[1])];
-        let rows = [
-            each(|reel| reel.size.to_string()),
-            each(|reel| counted(reel.header.frames.into(), "frame")),
-            each(|reel| format!("{} ms a frame", reel.header.speed)),
+        let [one, other] = reels;
+        let are_other =
+            [one.size != other.size, one.header.frames != other.header.frames, one.header.speed != other.header.speed];
+        let words: [fn(&Reel) -> String; 3] = [
+            |reel| reel.size.to_string(),
+            |reel| counted(reel.header.frames.into(), "frame"),
+            |reel| format!("{} a frame", delay(&reel.header)),
         ];
-        let differing = rows.iter().filter(|[one, other]| one != other);
-        for [one, other] in differing.clone() {
-            say(&format!("{}: {one}; {}: {other}\n", self.names[0], self.names[1]))?;
+        // Which format it is, isn't seen on a board that takes both.
+        if one.header.format != other.header.format {
+            self.say_of_each(reels, |reel| format!("an {}", reel.header.format))?;
+        }
+        for (_, words) in are_other.iter().zip(words).filter(|(is_other, _)| **is_other) {
+            self.say_of_each(reels, words)?;
         }
         reels.iter().filter_map(|reel| reel.refused.as_ref()).for_each(|line| complain(&format!("flic: {line}")));
-        Ok(differing.count() > 0 || reels.iter().any(|reel| reel.refused.is_some()))
+        Ok(are_other.contains(&true) || reels.iter().any(|reel| reel.refused.is_some()))
     }
 
-    /// Says of each frame that both have whether it differs; gives how many were compared.
-    fn frames(&mut self, reels: &[Reel; 2]) -> Outcome<usize> {
+    fn say_of_each(&self, [one, other]: &[Reel; 2], words: fn(&Reel) -> String) -> Outcome {
+        say(&format!("{}: {}; {}: {}\n", self.names[0], words(one), self.names[1], words(other)))
+    }
+
+    /// Says of each frame that both have whether it differs.
+    fn frames(&mut self, reels: &[Reel; 2]) -> Outcome<Compared> {
+        if reels[0].size != reels[1].size {
+            return Ok(Compared { count: 0, is_all: false });
+        }
         let pairs = reels[0].states().zip(reels[1].states());
         let frames = usize::from(reels[0].header.frames.min(reels[1].header.frames));
         // Where one has more frames, the other's ring is compared with none of them.
@@ -128,7 +149,7 @@ impl Report<'_> {
                 self.write(at + 1, at == frames, &one, &other)?;
             }
         }
-        Ok(compared)
+        Ok(Compared { count: compared, is_all: has_ring })
     }
 
     fn write(&mut self, number: usize, is_ring: bool, one: &State, other: &State) -> Outcome {
@@ -138,13 +159,20 @@ impl Report<'_> {
         folder.add(&format!("{number:04}{ring}.png"), &bytes)
     }
 
-    fn sum(&self, others: bool, compared: usize, directory: Option<&Path>) -> Outcome {
+    fn sum(&self, others: bool, compared: Compared, directory: Option<&Path>) -> Outcome {
         let [one, other] = &self.names;
         match self.differing {
-            0 if others => Err(Failure::Said),
-            0 => say(&format!("{one} and {other} show the same: {} and the ring\n", counted(compared - 1, "frame"))),
+            0 if !compared.is_all => Err(Failure::Said),
+            0 => {
+                let (what, frames) = (if others { " pictures" } else { "" }, counted(compared.count - 1, "frame"));
+                say(&format!("{one} and {other} show the same{what}: {frames} and the ring\n"))?;
+                match others {
+                    true => Err(Failure::Said),
+                    false => Ok(()),
+                }
+            }
             differing => {
-                let words = format!("{one} and {other}: {differing} of {compared} pictures differ");
+                let words = format!("{one} and {other}: {differing} of {} pictures differ", compared.count);
                 match directory {
                     Some(directory) => wrong(format!("{words}; see {}", directory.shown())),
                     None => wrong(words),

@@ -11,8 +11,8 @@ use crate::tool::progress::Progress;
 use crate::tool::refused::Told;
 use crate::tool::say::say;
 use crate::tool::shares::{shares, Share};
-use crate::tool::stored::{date, StoredHeader};
-use flic::{CheckedReel, Refusal};
+use crate::tool::stored::{date, Rest, StoredHeader};
+use flic::CheckedReel;
 use std::path::Path;
 
 pub const COMMAND: Command = Command {
@@ -20,9 +20,10 @@ pub const COMMAND: Command = Command {
     usage: "FILE [--json]",
     summary: "shows the header, and the bytes of each kind of chunk",
     about:
-        "Prints the fields of the file header, then how many chunks of each kind there are and how many bytes they take.
-The bytes sum up to the file's. The last line says what share of the tiles of a picture a frame redraws. Of a refused
-FLC file the header is shown, if it is whole, and why, with exit status 1.",
+        "Prints the format and the fields of the file header, then how many chunks of each kind there are and how many
+bytes they take. The bytes sum up to the file's. The delay of an FLI is shown in jiffies of 1/70 second, as it is
+stored, and in milliseconds, as it is played. The last line says what share of the tiles of a picture a frame redraws.
+Of a refused file the header is shown, if it is whole, and why, with exit status 1.",
     options: &[JSON],
     run,
 };
@@ -39,8 +40,7 @@ fn run(arguments: Arguments) -> Outcome {
         Err(why) => Some(*why),
     };
     let told = fault.map(|why| Told::of(&bytes, why));
-    let is_flc = fault.is_none_or(|why| why.refusal != Refusal::WrongType);
-    let header = StoredHeader::of(&bytes).filter(|_| is_flc);
+    let header = StoredHeader::of(&bytes).filter(|header| header.format().is_some());
     let reel = reel.ok();
     let shares = reel.as_ref().map(|reel| shares(reel.frame_chunks(), reel.header().size as usize, &bytes));
     if is_json {
@@ -68,8 +68,14 @@ fn value(file: &Path, told: Option<&Told>, header: Option<StoredHeader>, shares:
     ])
 }
 
+/// What only the other format has is null.
 fn header_value(header: &StoredHeader) -> Json {
+    let (jiffies, speed, made, offsets) = match header.rest {
+        Rest::Flc { speed, made, oframe1, oframe2 } => (None, speed, Some(made), Some((oframe1, oframe2))),
+        Rest::Fli { delay, .. } => (Some(delay), delay.in_milliseconds(), None, None),
+    };
     Json::Object(vec![
+        ("format", Json::format(header.format())),
         ("size", Json::number(header.size)),
         ("magic", Json::number(header.magic)),
         ("frames", Json::number(header.frames)),
@@ -77,15 +83,16 @@ fn header_value(header: &StoredHeader) -> Json {
         ("height", Json::number(header.height)),
         ("depth", Json::number(header.depth)),
         ("flags", Json::number(header.flags)),
-        ("speed", Json::number(header.speed)),
-        ("created", Json::number(header.created)),
-        ("creator", Json::number(header.creator)),
-        ("updated", Json::number(header.updated)),
-        ("updater", Json::number(header.updater)),
-        ("aspect_x", Json::number(header.aspect_x)),
-        ("aspect_y", Json::number(header.aspect_y)),
-        ("oframe1", Json::number(header.oframe1)),
-        ("oframe2", Json::number(header.oframe2)),
+        ("jiffies", Json::maybe(jiffies.map(|jiffies| jiffies.0))),
+        ("speed", Json::number(speed.0)),
+        ("created", Json::maybe(made.map(|made| made.created))),
+        ("creator", Json::maybe(made.map(|made| made.creator))),
+        ("updated", Json::maybe(made.map(|made| made.updated))),
+        ("updater", Json::maybe(made.map(|made| made.updater))),
+        ("aspect_x", Json::maybe(made.map(|made| made.aspect_x))),
+        ("aspect_y", Json::maybe(made.map(|made| made.aspect_y))),
+        ("oframe1", Json::maybe(offsets.map(|offsets| offsets.0))),
+        ("oframe2", Json::maybe(offsets.map(|offsets| offsets.1))),
     ])
 }
 
@@ -98,24 +105,38 @@ fn share_value(share: &Share) -> Json {
 }
 
 fn fields(header: &StoredHeader) -> String {
-    let closed = if header.is_closed() { "closed" } else { "not closed" };
-    let rows = [
+    let mut rows = vec![
+        ("format", header.format().map_or(String::new(), |format| format.to_string())),
         ("size", format!("{} bytes", header.size)),
         ("magic", format!("{:04X}", header.magic)),
         ("frames", format!("{} and the ring", header.frames)),
         ("width", header.width.to_string()),
         ("height", header.height.to_string()),
         ("depth", header.depth.to_string()),
-        ("flags", format!("{} ({closed})", header.flags)),
-        ("speed", format!("{} ms a frame", header.speed)),
-        ("created", date(header.created)),
-        ("creator", format!("{:08X}", header.creator)),
-        ("updated", date(header.updated)),
-        ("updater", format!("{:08X}", header.updater)),
-        ("aspect", format!("{}:{}", header.aspect_x, header.aspect_y)),
-        ("oframe1", header.oframe1.to_string()),
-        ("oframe2", header.oframe2.to_string()),
     ];
+    match header.rest {
+        Rest::Flc { speed, made, oframe1, oframe2 } => {
+            let closed = if header.is_closed() { "closed" } else { "not closed" };
+            rows.extend([
+                ("flags", format!("{} ({closed})", header.flags)),
+                ("speed", format!("{speed} a frame")),
+                ("created", date(made.created)),
+                ("creator", format!("{:08X}", made.creator)),
+                ("updated", date(made.updated)),
+                ("updater", format!("{:08X}", made.updater)),
+                ("aspect", format!("{}:{}", made.aspect_x, made.aspect_y)),
+                ("oframe1", oframe1.to_string()),
+                ("oframe2", oframe2.to_string()),
+            ]);
+        }
+        Rest::Fli { delay, .. } => {
+            rows.extend([
+                ("flags", header.flags.to_string()),
+                ("delay", format!("{delay} a frame")),
+                ("speed", format!("{} a frame", delay.in_milliseconds())),
+            ]);
+        }
+    }
     rows.iter().map(|(name, value)| format!("{name:8} {value}\n")).collect()
 }
 

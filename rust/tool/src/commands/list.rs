@@ -9,10 +9,12 @@ use crate::tool::json::Json;
 use crate::tool::name::Shown;
 use crate::tool::progress::Progress;
 use crate::tool::refused::Told;
-use crate::tool::salvage::Salvage;
+use crate::tool::salvage::{Found, Salvage};
 use crate::tool::say::say;
-use crate::tool::stored::{chunks, kind_name, sub_chunks, StoredChunk, StoredHeader, FRAME_HEADER, FRAME_KIND};
-use flic::FILE_HEADER;
+use crate::tool::stored::{
+    chunks, format_of, kind_name, sub_chunks, StoredChunk, StoredHeader, FRAME_HEADER, FRAME_KIND,
+};
+use flic::{check_trailer, Format, Refusal, Refused, FILE_HEADER};
 
 pub const COMMAND: Command = Command {
     name: "list",
@@ -21,7 +23,8 @@ pub const COMMAND: Command = Command {
     about: "\
 Prints 'flic WIDTH HEIGHT FRAMES', then a line for each chunk up to the ring with its depth, offset, kind, size and
 name, as far as chunks are found. The last line is 'ok' if the check accepts the file, and else 'refused NUMBER
-OFFSET', with exit status 1. A file may be of any size.",
+OFFSET', with exit status 1. A file may be of any size. Only an FLC is listed: of an FLI flic info says what it holds,
+and flic convert makes an FLC of it.",
     options: &[JSON],
     run,
 };
@@ -32,18 +35,21 @@ fn run(arguments: Arguments) -> Outcome {
     let progress = Progress::new(format!("checking {}", file.shown()), 0);
     let mut source = Source::open(&file)?;
     source.read_reel()?;
-    let why = checked(&source.bytes).err();
+    let why = not_listed(&source.bytes).or_else(|| checked(&source.bytes).err());
     if why.is_some() {
         source.read_on()?;
     }
     drop(progress);
     let told = why.map(|why| Told::of(&source.bytes, why));
     let header = StoredHeader::of(&source.bytes);
-    let rows = Salvage::of(&source.bytes).map_or(Vec::new(), |salvage| rows(&salvage, &source.bytes));
+    let format = format_of(&source.bytes);
+    let salvage = Salvage::of(&source.bytes).ok().filter(|salvage| salvage.format == Format::Flc);
+    let rows = salvage.map_or(Vec::new(), |salvage| rows(&salvage, &source.bytes));
     let header = header.filter(|_| !rows.is_empty());
     if is_json {
         let object = vec![
             ("file", Json::name(&file)),
+            ("format", Json::format(format)),
             ("ok", Json::Bool(told.is_none())),
             ("refusal", Json::refusal(told.as_ref())),
             ("width", header.map_or(Json::Null, |header| Json::number(header.width))),
@@ -65,6 +71,11 @@ fn run(arguments: Arguments) -> Outcome {
             wrong(format!("{}: {told}", file.shown()))
         }
     }
+}
+
+/// The refusal of what the codec lists nothing of, an FLI among it.
+fn not_listed(bytes: &[u8]) -> Option<Refused> {
+    check_trailer(bytes).err().filter(|why| why.refusal == Refusal::WrongType)
 }
 
 /// A chunk of the listing.
@@ -95,9 +106,13 @@ impl Row {
 /// The chunks up to the ring: frames where the codec finds them, what they hold, and what stands between them.
 fn rows(salvage: &Salvage, bytes: &[u8]) -> Vec<Row> {
     let (mut rows, mut at) = (Vec::new(), FILE_HEADER);
-    let wanted = salvage.promised.map_or(salvage.chunks.len(), |frames| frames + 1);
-    for (number, frame) in (1..).zip(salvage.chunks.iter().take(wanted)) {
+    let wanted = salvage.promised.map_or(salvage.found.len(), |frames| frames + 1);
+    for (number, Found { chunk: frame, lost }) in (1..).zip(salvage.found.iter().take(wanted)) {
         rows.extend(back_to_back(0, at, chunks(&bytes[at..frame.offset])));
+        at = frame.end();
+        if lost.is_some() {
+            continue;
+        }
         let name = if salvage.promised.is_some_and(|frames| number > frames) {
             "ring".to_string()
         } else {
@@ -106,9 +121,8 @@ fn rows(salvage: &Salvage, bytes: &[u8]) -> Vec<Row> {
         rows.push(Row { depth: 0, offset: frame.offset, kind: FRAME_KIND, size: frame.size, name });
         let held = sub_chunks(&bytes[frame.offset..frame.end()]);
         rows.extend(back_to_back(1, frame.offset + FRAME_HEADER, held));
-        at = frame.end();
     }
-    if salvage.chunks.len() < wanted {
+    if salvage.found.len() < wanted {
         let last = chunks(&bytes[at..salvage.reel_end()]).take_while(|chunk| chunk.kind != FRAME_KIND);
         rows.extend(back_to_back(0, at, last));
     }

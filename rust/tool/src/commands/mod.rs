@@ -2,6 +2,7 @@
 
 mod build;
 mod check;
+mod convert;
 mod diff;
 mod frames;
 mod info;
@@ -33,7 +34,7 @@ pub struct Command {
 }
 
 /// What the tool does, in a line.
-pub const SUMMARY: &str = "checks, shows and makes FLC reels for menu boards";
+pub const SUMMARY: &str = "checks, shows and makes FLC and FLI reels for menu boards";
 
 /// How a command ends, and what it may leave.
 pub const EXIT: &str = "\
@@ -42,7 +43,7 @@ The name - is standard input for a file that is read, and standard output for on
 What is written has a temporary name first, .NAME.NUMBER.tmp; one that an interrupted run left can be removed.
 ";
 
-pub const ALL: [Command; 15] = [
+pub const ALL: [Command; 16] = [
     check::COMMAND,
     info::COMMAND,
     list::COMMAND,
@@ -56,14 +57,29 @@ pub const ALL: [Command; 15] = [
     build::COMMAND,
     repair::COMMAND,
     rewrite::COMMAND,
+    convert::COMMAND,
     trailer::COMMAND,
     manual::COMMAND,
 ];
 
+/// The most letters of a line.
+const LINE: usize = 120;
+
 impl Command {
-    /// The usage line.
+    /// The usage line, broken where it is too long, but not within brackets.
     pub fn usage(&self) -> String {
-        format!("usage: flic {} {}", self.name, self.usage)
+        let mut lines = vec![format!("usage: flic {}", self.name)];
+        let mut depth = 0;
+        for word in self.usage.split(' ') {
+            let last = lines.len() - 1;
+            match depth == 0 && lines[last].len() + 1 + word.len() > LINE {
+                true => lines.push(format!("          {word}")),
+                false => lines[last] += &format!(" {word}"),
+            }
+            depth += word.matches('[').count();
+            depth -= word.matches(']').count();
+        }
+        lines.join("\n")
     }
 
     /// The usage line, what the command does, and its options.
@@ -96,7 +112,7 @@ mod tests {
     fn no_line_is_too_long_to_be_read() {
         for command in &ALL {
             let longest = command.help().lines().map(str::len).max();
-            assert!(longest <= Some(120), "{}: {longest:?}", command.name);
+            assert!(longest <= Some(LINE), "{}: {longest:?}", command.name);
             assert!(!command.about.ends_with('\n') && !command.about.is_empty(), "{}", command.name);
         }
     }

@@ -8,7 +8,7 @@ use crate::tool::numbers::counted;
 use crate::tool::progress::Progress;
 use crate::tool::target::say_beside;
 use crate::tool::{files, outputs, refused};
-use flic::{write_frame, CheckedReel, State};
+use flic::{write_frame, CheckedReel, Format, State};
 use std::path::Path;
 
 pub const COMMAND: Command = Command {
@@ -50,13 +50,13 @@ fn run(arguments: Arguments) -> Outcome {
     )
 }
 
-/// Every frame and the ring in house form, which has few kinds: the page reads no other.
+/// Every frame and the ring in house form of an FLC, which has few kinds: the page reads no other.
 fn frames(reel: &CheckedReel, progress: &Progress) -> flic::Result<Vec<Vec<u8>>> {
     let (mut laps, mut before) = (reel.laps(), State::blank(reel.size()));
     let mut frames = Vec::new();
     for _ in reel.frame_chunks() {
         let shown = laps.advance().state;
-        frames.push(write_frame(&before, shown)?);
+        frames.push(write_frame(Format::Flc, &before, shown)?);
         before.clone_from(shown);
         progress.step();
     }
@@ -67,7 +67,7 @@ fn page(file: &Path, reel: &CheckedReel, frames: &[Vec<u8>]) -> String {
     let name = file.file_name().unwrap_or(file.as_os_str()).to_string_lossy();
     let header = reel.header();
     let frames: Vec<String> = frames.iter().map(|frame| format!("\"{}\"", base64(frame))).collect();
-    let (width, height, speed) = (header.width, header.height, header.speed);
+    let (width, height, speed) = (header.width, header.height, header.speed.0);
     let parts = [
         ("{{name}}", escaped(&name)),
         ("{{width}}", width.to_string()),

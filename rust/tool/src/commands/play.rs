@@ -9,7 +9,7 @@ use crate::tool::progress::Progress;
 use crate::tool::say::say;
 use crate::tool::terminal::{must_be_there, Measures, Met, Terminal};
 use crate::tool::{files, refused};
-use flic::{Event, Player};
+use flic::{Event, Milliseconds, Player};
 use std::time::Instant;
 
 pub const COMMAND: Command = Command {
@@ -46,7 +46,7 @@ fn run(arguments: Arguments) -> Outcome {
     let player = Player::start(&bytes[..], 0);
     drop(progress);
     let mut player = refused::accepted(&file, &bytes, player)?;
-    player.set_speed(speed.unwrap_or(player.speed()));
+    player.set_speed(speed.map_or(player.speed(), Milliseconds));
 
     let mut show = Show { player, lap: 1, screen: None, terminal: Terminal::open()? };
     let end = show.until_the_end(laps.map(u64::from));

@@ -4,12 +4,13 @@ use super::check::checked;
 use super::Command;
 use crate::tool::arguments::{Arguments, Opt};
 use crate::tool::failure::{wrong, Outcome};
+use crate::tool::formats::may_be_named;
 use crate::tool::house::not_kept;
 use crate::tool::name::Shown;
 use crate::tool::numbers::{counted, grouped, named};
 use crate::tool::progress::Progress;
 use crate::tool::refused::Told;
-use crate::tool::salvage::{Fate, Part, Piece, Salvage};
+use crate::tool::salvage::{Fate, Part, Piece, Salvage, Skipped};
 use crate::tool::shares::{lost, others as others_in, shares, What};
 use crate::tool::stored::{self, StoredHeader, FRAME_KIND};
 use crate::tool::target::{Target, FORCE};
@@ -23,13 +24,14 @@ pub const COMMAND: Command = Command {
     summary: "saves what can be read of a refused reel, with a new ring",
     about: "\
 Writes the frames of IN that can be read, in their order, as the reel OUT, with a new ring that leads from the last of
-them back to the first, and says what was wrong and what isn't kept. OUT is checked; IN stays as it is, and OUT may
-not be IN. A reel that was cut, never closed, whose ring doesn't lead back, or into which a tool put old bytes plays
-again, with all frames that are whole.
+them back to the first, and says what was wrong and what isn't kept. OUT has the format of IN, and is checked; IN stays
+as it is, and OUT may not be IN. A reel that was cut, never closed, whose ring doesn't lead back, or into which a tool
+put old bytes plays again, with all frames that are whole. A frame of an FLI that holds what only an FLC may hold, kind
+7 or 18, is drawn as an FLC's and written as an FLI has it.
 
-A frame that can't be read is dropped. The frames behind it were made to be drawn on its picture, and are drawn on the
-one before: it is said which, so that they can be looked at, or left out with --sure. Where none is left that shows
-what it should, nothing is written.",
+A frame that can't be read is dropped; where a chunk's size is damaged, the next frame is looked for behind it. The
+frames behind a dropped one were made to be drawn on its picture, and are drawn on the one before: it is said which, so
+that they can be looked at, or left out with --sure. Where none is left that shows what it should, nothing is written.",
     options: &[
         Opt { name: "--keep-others", value: None, about: "keeps chunks outside frames, which are dropped otherwise" },
         Opt { name: "--sure", value: None, about: "drops frames that a dropped one can be seen in" },
@@ -51,6 +53,7 @@ fn run(arguments: Arguments) -> Outcome {
     let told = checked(&before).err().map(|why| Told::of(&before, why));
     drop(progress);
     let salvage = refused::accepted(&file, &before, Salvage::of(&before))?;
+    may_be_named(&out, &file, salvage.format)?;
 
     let made = Repair::made(&salvage, &before, wants_sure, format!("repairing {}", file.shown()));
     let repair = refused::accepted(&file, &before, made)?;
@@ -86,6 +89,8 @@ struct Repair<'a> {
     /// Frames that had spare bytes, and how many bytes.
     tidied: Vec<usize>,
     spare: usize,
+    /// Frames of an FLI that hold what only an FLC may hold.
+    of_flc: Vec<usize>,
     ring: Option<Fate>,
     /// The frames that are kept, and the ring.
     kept: Vec<Chunk>,
@@ -99,18 +104,19 @@ impl<'a> Repair<'a> {
     fn made(salvage: &'a Salvage<'a>, bytes: &[u8], wants_sure: bool, what: String) -> flic::Result<Repair<'a>> {
         let mut repair = Repair {
             salvage,
-            reel: Reel::open(salvage.size, salvage.speed)?,
+            reel: Reel::open_as(salvage.format, salvage.size, salvage.speed)?,
             found: 0,
             dropped: Vec::new(),
             unsure: Vec::new(),
             tidied: Vec::new(),
             spare: 0,
+            of_flc: Vec::new(),
             ring: None,
             kept: Vec::new(),
             has_sure: false,
             others: Vec::new(),
         };
-        let progress = Progress::new(what, salvage.chunks.len());
+        let progress = Progress::new(what, salvage.found.len());
         let (mut pieces, mut at, mut pending) = (salvage.pieces(), FILE_HEADER, Vec::new());
         while let Some(piece) = pieces.next() {
             pending.extend(others_in(&bytes[at..piece.chunk.offset]));
@@ -135,9 +141,10 @@ impl<'a> Repair<'a> {
         self.found += 1;
         match piece.fate {
             Fate::Dropped(why) => self.dropped.push((piece.number, why)),
-            Fate::Tidied(spare) => {
-                self.tidied.push(piece.number);
+            Fate::Mended { spare, is_of_flc } => {
+                self.tidied.extend((spare > 0).then_some(piece.number));
                 self.spare += spare;
+                self.of_flc.extend(is_of_flc.then_some(piece.number));
             }
             Fate::Accepted => {}
         }
@@ -208,6 +215,16 @@ impl<'a> Repair<'a> {
         if !self.tidied.is_empty() {
             let names = named(&self.tidied).0;
             notes.push(format!("{} taken out of {names}", counted(self.spare, "spare byte")));
+        }
+        if !self.of_flc.is_empty() {
+            let names = named(&self.of_flc).0;
+            notes.push(format!(
+                "kind 7 or 18, which only an FLC may hold, in {names}: drawn as in one, and written anew"
+            ));
+        }
+        for Skipped { chunk, .. } in &self.salvage.skipped {
+            let skipped = counted(chunk.size, "byte");
+            notes.push(format!("{skipped} skipped from offset {} on, up to the next frame", chunk.offset));
         }
         notes.extend(self.missing());
         if !was_refused {

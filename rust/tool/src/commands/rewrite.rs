@@ -3,6 +3,7 @@
 use super::Command;
 use crate::tool::arguments::Arguments;
 use crate::tool::failure::Outcome;
+use crate::tool::formats::may_be_named;
 use crate::tool::house::{house, not_kept};
 use crate::tool::name::Shown;
 use crate::tool::numbers::{counted, grouped};
@@ -18,9 +19,10 @@ pub const COMMAND: Command = Command {
     usage: "IN OUT [--force]",
     summary: "writes the same pictures in house form",
     about: "\
-Writes the reel IN anew as OUT, in house form: the same pictures, palettes and speed, and a trailer if IN has one.
-Other chunks, dates, and bytes behind the reel that aren't its trailer aren't kept; it is said which there were.
-OUT may be IN. A FLC file that is there already is replaced if it is in house form, or with --force; another file isn't.",
+Writes the reel IN anew as OUT, in house form: the same format, pictures, palettes and delay, and a trailer if IN has
+one. Other chunks, dates, and bytes behind the reel that aren't its trailer aren't kept; it is said which there were.
+OUT may be IN. An FLC or FLI file that is there already is replaced if it is in house form, or with --force; another
+file isn't. An FLI of an FLC, or the other way round, is made with flic convert.",
     options: &[FORCE],
     run,
 };
@@ -33,6 +35,7 @@ fn run(arguments: Arguments) -> Outcome {
     let reel = CheckedReel::new(&before);
     drop(progress);
     let reel = refused::accepted(&file, &before, reel)?;
+    may_be_named(&out, &file, reel.format())?;
     let target = Target::new(&out, is_forced)?;
     let after = refused::accepted(&file, &before, house(&reel, &before, format!("writing {}", target.name())))?;
     let mut not_in_it = lost(&shares(reel.frame_chunks(), reel.header().size as usize, &before));

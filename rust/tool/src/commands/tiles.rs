@@ -106,12 +106,12 @@ pub fn share(reel: &CheckedReel) -> String {
 #[cfg(test)]
 mod tests {
     use super::*;
-    use flic::{Reel, Size};
+    use flic::{Milliseconds, Reel, Size};
 
     /// A reel of 20 by 30 pixels, of three rows of tiles and a part of a fourth, each frame with one pixel set.
     fn reel(pixels: &[(usize, usize)]) -> Vec<u8> {
         let size = Size::new(20, 30).unwrap();
-        let mut reel = Reel::open(size, 70).unwrap();
+        let mut reel = Reel::open(size, Milliseconds(70)).unwrap();
         for (x, y) in pixels {
             let mut state = State::blank(size);
             state.picture.pixels_mut()[y * 20 + x] = 1;
@@ -150,7 +150,7 @@ mod tests {
     #[test]
     fn a_change_of_colours_alone_marks_no_tile() {
         let size = Size::new(1, 1).unwrap();
-        let mut reel = Reel::open(size, 70).unwrap();
+        let mut reel = Reel::open(size, Milliseconds(70)).unwrap();
         let mut state = State::blank(size);
         reel.add(&state).unwrap();
         state.palette.set_colour(0, [1; 3]);

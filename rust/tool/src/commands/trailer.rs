@@ -19,7 +19,7 @@ pub const COMMAND: Command = Command {
 check   says whether what stands behind the reel is its trailer, or nothing; exit status 1 if it is something else.
 write   writes the trailer behind the reel, in place of whatever stands there.
 
-Neither opens a frame; flic check does.",
+Neither opens a frame; flic check does. Both are for FLC files: an FLI has no trailer.",
     options: &[],
     run,
 };

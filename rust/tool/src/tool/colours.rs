@@ -1,7 +1,7 @@
 //! Chooses palette entries for a picture's colours so that little changes against what shows.
 
 use super::image::Image;
-use flic::{write_frame, State};
+use flic::{write_frame, Format, State};
 use std::cmp::Reverse;
 use std::collections::BTreeMap;
 
@@ -11,17 +11,17 @@ const KEPT_ENTRY: u32 = 4;
 /// More than any number of pixels.
 const ALWAYS: u32 = 1 << 24;
 
-/// A state that shows the picture, or how many colours it has if there are more than entries.
+/// A state that shows the picture in a reel of this format, or how many colours it has if there are more than entries.
 ///
 /// Colours stay at the entry they have, unless the frame gets shorter by changing entries under pixels that stay, as
 /// in a fade.
-pub fn state_showing(image: &Image, shown: &State) -> Result<State, usize> {
+pub fn state_showing(image: &Image, format: Format, shown: &State) -> Result<State, usize> {
     let picture = Coloured::of(image);
     if picture.colours.len() > ENTRIES {
         return Err(picture.colours.len());
     }
     let (kept, moved) = (picture.state(shown, ALWAYS), picture.state(shown, KEPT_ENTRY));
-    let length = |state: &State| write_frame(shown, state).map_or(usize::MAX, |frame| frame.len());
+    let length = |state: &State| write_frame(format, shown, state).map_or(usize::MAX, |frame| frame.len());
     Ok(if kept != moved && length(&moved) < length(&kept) { moved } else { kept })
 }
 
@@ -114,9 +114,9 @@ mod tests {
     #[test]
     fn colours_keep_their_entries() {
         let first = image(&[BLACK, RED, GREEN, GREEN]);
-        let shown = state_showing(&first, &blank(&first)).unwrap();
+        let shown = state_showing(&first, Format::Flc, &blank(&first)).unwrap();
         assert_eq!(shown.picture.pixels(), [0, 1, 2, 2]);
-        let next = state_showing(&image(&[GREEN, RED, GREEN, BLUE]), &shown).unwrap();
+        let next = state_showing(&image(&[GREEN, RED, GREEN, BLUE]), Format::Flc, &shown).unwrap();
         assert_eq!(next.picture.pixels()[..3], [2, 1, 2]);
         assert_eq!(next.rgb(), [GREEN, RED, GREEN, BLUE].concat());
     }
@@ -124,9 +124,9 @@ mod tests {
     #[test]
     fn colours_that_trade_places_in_part_stay_where_that_is_shorter() {
         let first = image(&[vec![RED; 31], vec![GREEN; 65]].concat());
-        let shown = state_showing(&first, &blank(&first)).unwrap();
+        let shown = state_showing(&first, Format::Flc, &blank(&first)).unwrap();
         let second = image(&[vec![RED; 30], vec![GREEN], vec![RED; 35], vec![GREEN; 30]].concat());
-        let next = state_showing(&second, &shown).unwrap();
+        let next = state_showing(&second, Format::Flc, &shown).unwrap();
         assert_eq!((&next.palette, next.rgb()), (&shown.palette, second.pixels.concat()));
     }
 
@@ -134,9 +134,9 @@ mod tests {
     fn a_fade_changes_the_palette_alone() {
         let levels = |level: u8| image(&std::array::from_fn::<_, 64, _>(|at| [level + 16 * (at as u8 % 8); 3]));
         let first = levels(100);
-        let mut shown = state_showing(&first, &blank(&first)).unwrap();
+        let mut shown = state_showing(&first, Format::Flc, &blank(&first)).unwrap();
         for level in (4..100).rev().step_by(16) {
-            let next = state_showing(&levels(level), &shown).unwrap();
+            let next = state_showing(&levels(level), Format::Flc, &shown).unwrap();
             assert_eq!((&next.picture, next.rgb()), (&shown.picture, levels(level).pixels.concat()));
             shown = next;
         }
@@ -146,8 +146,8 @@ mod tests {
     fn levels_that_move_on_to_the_next_entry_still_leave_the_pixels() {
         let levels = |level: u8| image(&std::array::from_fn::<_, 96, _>(|at| [level + 16 * ((at * at) as u8 % 5); 3]));
         let first = levels(64);
-        let shown = state_showing(&first, &blank(&first)).unwrap();
-        let next = state_showing(&levels(48), &shown).unwrap();
+        let shown = state_showing(&first, Format::Flc, &blank(&first)).unwrap();
+        let next = state_showing(&levels(48), Format::Flc, &shown).unwrap();
         assert_eq!((&next.picture, next.rgb()), (&shown.picture, levels(48).pixels.concat()));
     }
 
@@ -155,11 +155,28 @@ mod tests {
     fn all_entries_can_be_used_and_no_more() {
         let colours = |count: usize| image(&(0..count).map(|at| [at as u8, (at >> 8) as u8, 7]).collect::<Vec<_>>());
         let full = colours(256);
-        let shown = state_showing(&full, &blank(&full)).unwrap();
+        let shown = state_showing(&full, Format::Flc, &blank(&full)).unwrap();
         assert_eq!(shown.rgb(), full.pixels.concat());
         let other = image(&full.pixels.iter().rev().map(|colour| [colour[0], 9, 9]).collect::<Vec<_>>());
-        assert_eq!(state_showing(&other, &shown).unwrap().rgb(), other.pixels.concat());
+        assert_eq!(state_showing(&other, Format::Flc, &shown).unwrap().rgb(), other.pixels.concat());
         let over = colours(257);
-        assert_eq!(state_showing(&over, &blank(&over)), Err(257));
+        assert_eq!(state_showing(&over, Format::Flc, &blank(&over)), Err(257));
+    }
+
+    #[test]
+    fn each_format_has_its_own_shortest_frame() {
+        // Five pixels get another colour, and one elsewhere keeps the one that they had.
+        let picture = |colour: [u8; 3]| {
+            let mut pixels = vec![[0; 3]; 64_000];
+            pixels[960..965].fill(colour);
+            pixels[3_200] = [5; 3];
+            Image { width: 320, height: 200, pixels }
+        };
+        let shown = state_showing(&picture([5; 3]), Format::Flc, &blank(&picture([5; 3]))).unwrap();
+        let [flc, fli] =
+            [Format::Flc, Format::Fli].map(|format| state_showing(&picture([9; 3]), format, &shown).unwrap());
+        let length = |format, state| write_frame(format, &shown, state).unwrap().len();
+        assert!(length(Format::Flc, &flc) < length(Format::Flc, &fli));
+        assert!(length(Format::Fli, &fli) <= length(Format::Fli, &flc));
     }
 }

@@ -159,23 +159,23 @@ pub fn may_be_taken(target: &Path, is_ours: impl FnOnce() -> Outcome<bool>, why:
     wrong(format!("{}: {why}", target.shown()))
 }
 
-/// Refuses a target whose loss would be noticed: anything but a FLC file that may be written.
+/// Refuses a target whose loss would be noticed: anything but an FLC or FLI file that may be written.
 pub fn may_be_replaced(target: &Path) -> Outcome {
-    let why = "is there already and isn't a FLC file: give another name, or remove it first";
-    may_be_taken(target, || is_flc_or_empty(target), why)
+    let why = "is there already and isn't an FLC or FLI file: give another name, or remove it first";
+    may_be_taken(target, || is_reel_or_empty(target), why)
 }
 
-fn is_flc_or_empty(file: &Path) -> Outcome<bool> {
+fn is_reel_or_empty(file: &Path) -> Outcome<bool> {
     let mut front = Vec::new();
     match File::open(file).and_then(|file| file.take(FILE_HEADER as u64).read_to_end(&mut front)) {
-        Ok(_) => Ok(front.is_empty() || is_flc(front)),
+        Ok(_) => Ok(front.is_empty() || is_reel(front)),
         Err(error) => unreadable(file, &error),
     }
 }
 
-/// Whether a file that begins so has the magic of a FLC file, right or damaged: that is judged first, once there are as
-/// many bytes as a header has.
-fn is_flc(mut front: Vec<u8>) -> bool {
+/// Whether a file that begins so has the magic of an FLC or FLI file, right or damaged: that is judged first, once there
+/// are as many bytes as a header has.
+fn is_reel(mut front: Vec<u8>) -> bool {
     front.resize(FILE_HEADER, 0);
     !matches!(Header::read(&front), Err(Refused { refusal: Refusal::WrongType, .. }))
 }

@@ -7,7 +7,7 @@ use super::image::Image;
 use super::name::Shown;
 use super::reduce::{Counts, Reduction};
 use super::scale::{scaled, Way};
-use flic::Size;
+use flic::{Format, Size};
 use std::collections::HashSet;
 use std::path::{Path, PathBuf};
 
@@ -23,14 +23,16 @@ pub const DITHER: Opt = Opt { name: "--dither", value: None, about: "mixes the r
 
 /// Reads pictures, and fits them as was asked.
 pub struct Fitting {
+    format: Format,
     scale: Option<(Size, Way)>,
     reduction: Option<(usize, Reduction)>,
 }
 
 impl Fitting {
-    /// As the options ask for these pictures, which are read once for their colours where those are to be reduced.
-    pub fn asked(arguments: &Arguments, pictures: &[PathBuf]) -> Outcome<Fitting> {
-        let mut fitting = Fitting { scale: scale(arguments)?, reduction: None };
+    /// As the options ask for these pictures of a reel in a format, which are read once for their colours where those are
+    /// to be reduced.
+    pub fn asked(arguments: &Arguments, format: Format, pictures: &[PathBuf]) -> Outcome<Fitting> {
+        let mut fitting = Fitting { format, scale: scale(arguments, format)?, reduction: None };
         let dither = arguments.has(DITHER.name);
         match arguments.number(COLOURS.name, 2)? {
             Some(most @ ..=MOST_COLOURS) => {
@@ -58,12 +60,16 @@ impl Fitting {
         if let Some((size, way)) = self.scale {
             return Ok((scaled(&image, size, way), size));
         }
-        match image.size() {
+        match image.size().filter(|size| takes(self.format, *size)) {
             Some(size) => Ok((image, size)),
             None => wrong(format!(
-                "{}: is {}; a board takes 1 to 320 by 1 to 200: give --scale 320x200, or scale it first",
+                "{}: is {}; {}: give --scale 320x200, or scale it first",
                 file.shown(),
-                image.measures()
+                image.measures(),
+                match self.format {
+                    Format::Flc => "a board takes 1 to 320 by 1 to 200",
+                    Format::Fli => "an FLI is 320 by 200",
+                }
             )),
         }
     }
@@ -81,7 +87,12 @@ impl Fitting {
     }
 }
 
-fn scale(arguments: &Arguments) -> Outcome<Option<(Size, Way)>> {
+/// Whether a reel of this format may have pictures of this size.
+fn takes(format: Format, size: Size) -> bool {
+    format == Format::Flc || size == Size::FLI
+}
+
+fn scale(arguments: &Arguments, format: Format) -> Outcome<Option<(Size, Way)>> {
     let average = arguments.has(AVERAGE.name);
     let Some(value) = arguments.value(SCALE.name) else {
         return match average {
@@ -93,7 +104,12 @@ fn scale(arguments: &Arguments) -> Outcome<Option<(Size, Way)>> {
     let size = sides.and_then(|(width, height)| Size::new(width.parse().ok()?, height.parse().ok()?).ok());
     let way = if average { Way::Average } else { Way::Nearest };
     match size {
-        Some(size) => Ok(Some((size, way))),
+        Some(size) if takes(format, size) => Ok(Some((size, way))),
+        Some(_) => misused(format!(
+            "{} takes 320x200 for an FLI, whose pictures are of no other size, not {}",
+            SCALE.name,
+            Path::new(value).shown()
+        )),
         None => misused(format!(
             "{} takes a size from 1x1 to 320x200, as 160x100, not {}",
             SCALE.name,

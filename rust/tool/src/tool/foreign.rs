@@ -1,10 +1,6 @@
-//! What a file is that isn't a FLC file, by its first bytes.
+//! What a file is that is neither an FLC nor an FLI, by its first bytes.
 
-use super::stored::StoredHeader;
-
-/// The magic of a FLC file, and that of the FLI files of the original Animator.
-const FLC: u16 = 0xAF12;
-const FLI: u16 = 0xAF11;
+use super::stored::{format_of, StoredHeader, FLC_MAGIC, FLI_MAGIC};
 
 /// What a file is, and what to do with it.
 #[derive(Clone, Debug, PartialEq, Eq)]
@@ -43,21 +39,19 @@ const FRONTS: [(&[u8], usize, &str, &str); 21] = [
     (b"<", 0, "a text of HTML or XML", OTHER),
 ];
 
-/// None where the bytes may be a FLC file's, cut or damaged.
+/// None where the bytes may be a reel's, cut or damaged.
 pub fn foreign(bytes: &[u8]) -> Option<Foreign> {
-    let magic = bytes.get(4..6).map(|magic| u16::from_le_bytes([magic[0], magic[1]]));
-    if magic == Some(FLC) {
+    if format_of(bytes).is_some() {
         return None;
-    }
-    if magic == Some(FLI) {
-        let advice = "convert it with the tool that made it, or write its pictures out and give them to flic build";
-        return Some(Foreign { found: "this is a FLI file of the original Animator".to_string(), advice });
     }
     let front = FRONTS.iter().find(|(front, at, _, _)| bytes.get(*at..).is_some_and(|from| from.starts_with(front)));
     match front {
         Some((_, _, name, advice)) => Some(Foreign { found: format!("this is {name}"), advice }),
         None => StoredHeader::of(bytes).map(|header| Foreign {
-            found: format!("this isn't a FLC file: its magic is {:04X}, not {FLC:04X}", header.magic),
+            found: format!(
+                "this is neither an FLC nor an FLI: its magic is {:04X}, not {FLC_MAGIC:04X} or {FLI_MAGIC:04X}",
+                header.magic
+            ),
             advice: OTHER,
         }),
     }
@@ -79,14 +73,14 @@ mod tests {
         assert_eq!(named(b"RIFF\0\0\0\0WEBPVP8"), "this is a WebP picture");
         assert_eq!(named(b"\0\0\0\x20ftypisom"), "this is an MP4 film");
         assert_eq!(named(b"P6 1 1"), "this is a PPM picture");
-        assert_eq!(named(&[0, 0, 0, 0, 0x11, 0xAF]), "this is a FLI file of the original Animator");
-        assert_eq!(named(&[7; 128]), "this isn't a FLC file: its magic is 0707, not AF12");
+        let neither = "this is neither an FLC nor an FLI: its magic is 0707, not AF12 or AF11";
+        assert_eq!(named(&[7; 128]), neither);
     }
 
     #[test]
     fn a_damaged_reel_is_no_other_file() {
         assert_eq!(found(b""), None);
         assert_eq!(found(&[0; 127]), None);
-        assert_eq!(found(b"BM\0\0\x12\xAF"), None);
+        assert_eq!((found(b"BM\0\0\x12\xAF"), found(b"BM\0\0\x11\xAF")), (None, None));
     }
 }

@@ -1,22 +1,27 @@
 //! Reels in house form, as this tool writes them.
 
 use super::progress::Progress;
-use flic::{check_reel, check_trailer, write_trailer, CheckedReel, Header, Reel};
+use flic::{check_reel, check_trailer, write_trailer, CheckedReel, Format, Header, Reel};
 
-/// The same pictures and speed in house form, with a trailer if the file has one.
+/// The same pictures and delay in house form, in the same format, with a trailer if the file has one.
 pub fn house(reel: &CheckedReel, bytes: &[u8], what: String) -> flic::Result<Vec<u8>> {
-    let frames = usize::from(reel.header().frames);
-    let progress = Progress::new(what, frames);
-    let mut house = Reel::open(reel.size(), reel.header().speed)?;
-    for frame in reel.frames().take(frames) {
-        house.add(&frame.state)?;
-        progress.step();
-    }
-    let mut house = closed(house)?;
+    let mut house = house_in(reel.format(), reel, what)?;
     if has_trailer(bytes) {
         write_trailer(&mut house)?;
     }
     Ok(house)
+}
+
+/// The same pictures in house form of a format, the delay as near as that has it.
+pub fn house_in(format: Format, reel: &CheckedReel, what: String) -> flic::Result<Vec<u8>> {
+    let frames = usize::from(reel.header().frames);
+    let progress = Progress::new(what, frames);
+    let mut house = Reel::open_as(format, reel.size(), reel.header().speed)?;
+    for frame in reel.frames().take(frames) {
+        house.add(&frame.state)?;
+        progress.step();
+    }
+    closed(house)
 }
 
 /// A reel closed and checked.

@@ -1,6 +1,7 @@
 //! What a command says as JSON, for programs.
 
 use super::refused::Told;
+use flic::Format;
 use std::fmt;
 use std::path::Path;
 
@@ -18,6 +19,11 @@ impl Json {
         number.try_into().map_or(Json::Null, Json::Number)
     }
 
+    /// A number, or null where there is none.
+    pub fn maybe(number: Option<impl TryInto<u64>>) -> Json {
+        number.map_or(Json::Null, Json::number)
+    }
+
     pub fn text(text: impl Into<String>) -> Json {
         Json::Text(text.into())
     }
@@ -25,6 +31,11 @@ impl Json {
     /// A file's name as it is; what isn't UTF-8 in it is replaced.
     pub fn name(file: &Path) -> Json {
         Json::text(file.to_string_lossy())
+    }
+
+    /// `FLC` or `FLI`, or null for what is neither.
+    pub fn format(format: Option<Format>) -> Json {
+        format.map_or(Json::Null, |format| Json::text(format.to_string()))
     }
 
     /// A refusal, or null where there is none.

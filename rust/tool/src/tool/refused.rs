@@ -6,8 +6,10 @@ use super::name::Shown;
 use super::numbers::{counted, grouped};
 use super::progress::Progress;
 use super::salvage::Salvage;
-use super::stored::StoredHeader;
-use flic::{part_of, CheckedReel, Header, Part, Refusal, Refused, State, FILE_HEADER, MOST_FRAMES, TRAILER_MOST};
+use super::stored::{self, kind_name, StoredHeader};
+use flic::{
+    part_of, CheckedReel, Format, Header, Part, Refusal, Refused, State, FILE_HEADER, MOST_FRAMES, TRAILER_MOST,
+};
 use std::fmt;
 use std::path::Path;
 
@@ -87,9 +89,23 @@ fn found(bytes: &[u8], refused: Refused, part: Part) -> String {
             )
         }
         Refusal::BadSize => {
-            let limit = if header.width.min(header.height) == 0 { "at least 1 by 1" } else { "at most 320 by 200" };
-            format!("it is {} by {}, and a board takes {limit}", header.width, header.height)
+            let limit = match header.format() {
+                Some(Format::Fli) => "an FLI is 320 by 200",
+                _ if header.width.min(header.height) == 0 => "a board takes at least 1 by 1",
+                _ => "a board takes at most 320 by 200",
+            };
+            format!("it is {} by {}, and {limit}", header.width, header.height)
         }
+        Refusal::WrongType if header.format() == Some(Format::Fli) => {
+            "this is an FLI, and listings and trailers are of FLC files only".to_string()
+        }
+        Refusal::NotInFli => match stored::kind_at(bytes, refused.place as usize) {
+            Some(kind) => format!(
+                "this is an FLI, and holds a chunk of kind {kind} ({}), which only an FLC may hold",
+                kind_name(kind)
+            ),
+            None => usual(),
+        },
         Refusal::BadHeader => bad_header(&header),
         Refusal::FewFrames => few_frames(bytes, &header).unwrap_or_else(usual),
         Refusal::BadRing => bad_ring(bytes).unwrap_or_else(usual),
@@ -101,20 +117,23 @@ fn found(bytes: &[u8], refused: Refused, part: Part) -> String {
 fn bad_header(header: &StoredHeader) -> String {
     let frames = usize::from(header.frames);
     match header.depth {
-        8 if !(1..=MOST_FRAMES).contains(&frames) && header.is_closed() => {
+        8 if !(1..=MOST_FRAMES).contains(&frames) && header.flags == header.flags_of_closed() => {
             format!(
                 "its header says that it has {}, and a reel has 1 to {}",
                 counted(frames, "frame"),
                 grouped(MOST_FRAMES)
             )
         }
-        8 => format!("it was never closed: its flags are {}, not 3", header.flags),
+        8 if header.format() == Some(Format::Fli) => {
+            format!("its flags are {}, and those of an FLI are {}", header.flags, header.flags_of_closed())
+        }
+        8 => format!("it was never closed: its flags are {}, not {}", header.flags, header.flags_of_closed()),
         depth => format!("its depth is {depth}, and a board takes 8 bits a pixel"),
     }
 }
 
 fn few_frames(bytes: &[u8], header: &StoredHeader) -> Option<String> {
-    let (found, frames) = (Salvage::of(bytes).ok()?.chunks.len(), usize::from(header.frames));
+    let (found, frames) = (Salvage::of(bytes).ok()?.found.len(), usize::from(header.frames));
     Some(match found >= frames {
         true => format!("{} there, but no ring", if frames == 1 { "its frame is" } else { "all its frames are" }),
         false => format!("it has {} of {}, and no ring", grouped(found), counted(frames, "frame")),
@@ -171,8 +190,17 @@ fn advice(bytes: &[u8], refusal: Refusal) -> String {
             "a board would show a wrong picture from the second lap on: flic repair IN OUT makes the ring anew"
         }
         Refusal::SpareBytes => "the tool that wrote the file left old bytes in it: flic repair IN OUT takes them out",
+        Refusal::NotInFli => {
+            "a board that takes FLI can't draw it: flic repair IN OUT writes such frames anew as an FLI has them"
+        }
         Refusal::BadTrailer => return "write it anew with flic trailer write FILE".to_string(),
+        Refusal::BadSize if stored::format_of(bytes) == Some(Format::Fli) => {
+            return "make it anew from pictures of that size, or as an FLC".to_string()
+        }
         Refusal::BadSize => return "make it anew from pictures of a size that the board takes".to_string(),
+        Refusal::WrongType if stored::format_of(bytes) == Some(Format::Fli) => {
+            return "flic info FILE says what it holds, and flic convert FILE OUT.flc makes an FLC of it".to_string()
+        }
         _ => return refusal.advice().to_string(),
     };
     match Salvage::of(bytes).is_ok_and(|salvage| salvage.has_frames()) {

@@ -1,36 +1,123 @@
 //! What can be read of a file that the check refuses: its frames, found and judged by the codec one by one.
 
-use super::stored::{self, StoredHeader};
-use flic::{next_frame, read_frame, Chunk, Header, Refusal, Refused, Size, State, FILE_HEADER, MOST_FRAMES};
+use super::mending::Mended;
+use super::stored::{self, StoredHeader, FRAME_HEADER, FRAME_KIND};
+use flic::{
+    next_frame, read_frame, Chunk, Format, Header, Milliseconds, Refusal, Refused, Size, State, FILE_HEADER,
+    MOST_FRAMES,
+};
 
-/// The frame chunks that are found in a file.
+/// What is found in a file.
 pub struct Salvage<'a> {
     bytes: &'a [u8],
+    pub format: Format,
     pub size: Size,
-    pub speed: u32,
+    pub speed: Milliseconds,
     /// How many frames the header speaks of, if a reel can have so many.
     pub promised: Option<usize>,
     /// The frames, and the ring where it is there.
-    pub chunks: Vec<Chunk>,
-    /// Why no further one is found.
+    pub found: Vec<Found>,
+    /// Bytes that were skipped, since no chunk begins there, and why: behind them a frame was found again.
+    pub skipped: Vec<Skipped>,
+    /// Why no further frame is found.
     pub end: Option<Refused>,
     /// Whether the file was closed and has as many bytes as its header says.
     is_whole: bool,
 }
 
+/// A frame chunk.
+#[derive(Clone, Copy, Debug, PartialEq, Eq)]
+pub struct Found {
+    pub chunk: Chunk,
+    /// Set where nothing but its place is known, since its header is damaged: there may have been more than one.
+    pub lost: Option<Refused>,
+}
+
+/// Bytes behind a chunk header that is damaged, up to the next frame.
+#[derive(Clone, Copy, Debug, PartialEq, Eq)]
+pub struct Skipped {
+    pub chunk: Chunk,
+    pub why: Refused,
+}
+
 impl<'a> Salvage<'a> {
-    /// Refused where the header doesn't say what its frames are: they aren't FLC's, or of a size or depth that no
-    /// board takes.
+    /// Refused where the header doesn't say what its frames are: they are of neither format, or of a size or depth that
+    /// no board takes.
     pub fn of(bytes: &'a [u8]) -> flic::Result<Salvage<'a>> {
-        let header = Header::read(&stored::mended(bytes))?;
-        let size = Size::new(header.width, header.height)?;
+        let Header { format, width, height, speed, .. } = Header::read(&stored::mended(bytes))?;
+        let size = Size::new(width, height)?;
         let (promised, reel) = match StoredHeader::of(bytes) {
             Some(stored) => (Some(stored.frames.into()), stored.reel().filter(|reel| *reel <= bytes.len())),
             None => (None, None),
         };
         let promised = promised.filter(|frames| (1..=MOST_FRAMES).contains(frames));
-        let (chunks, end) = found(bytes, reel.unwrap_or(bytes.len()), promised);
-        Ok(Salvage { bytes, size, speed: header.speed, promised, chunks, end, is_whole: reel.is_some() })
+        let mut salvage = Salvage {
+            bytes,
+            format,
+            size,
+            speed,
+            promised,
+            found: Vec::new(),
+            skipped: Vec::new(),
+            end: None,
+            is_whole: reel.is_some(),
+        };
+        salvage.find(reel.unwrap_or(bytes.len()));
+        salvage.tell_lost();
+        Ok(salvage)
+    }
+
+    /// Finds the frame chunks up to the reel's end.
+    fn find(&mut self, mut end: usize) {
+        let mut at = FILE_HEADER;
+        while self.found.len() <= MOST_FRAMES {
+            match next_frame(&self.bytes[..end], at) {
+                Ok(chunk) => {
+                    at = chunk.end();
+                    self.found.push(Found { chunk, lost: None });
+                }
+                // The size in the header may be what is wrong.
+                Err(Refused { refusal: Refusal::Cut, .. }) if end < self.bytes.len() && self.lacks_some() => {
+                    end = self.bytes.len();
+                }
+                Err(why) => {
+                    let from = why.place as usize;
+                    let next = Some(from + 1).filter(|_| self.lacks_some()).and_then(|at| self.frame_from(at, end));
+                    let Some(next) = next else { return self.end = Some(why) };
+                    self.skipped.push(Skipped { chunk: Chunk { offset: from, size: next - from }, why });
+                    at = next;
+                }
+            }
+        }
+    }
+
+    /// Whether the header speaks of more frames, or of the ring, than are found.
+    fn lacks_some(&self) -> bool {
+        self.promised.is_none_or(|frames| self.found.len() <= frames)
+    }
+
+    /// Where the next frame begins, from an offset on at which no chunk need begin: by its type, and by what it holds,
+    /// which the codec has to accept.
+    fn frame_from(&self, at: usize, end: usize) -> Option<usize> {
+        let bytes = &self.bytes[..end];
+        let is_frame = |at: &usize| {
+            let size = stored::size_at(bytes, *at);
+            let frame = bytes[*at..].get(..size);
+            frame.is_some_and(|frame| Mended::of(frame, self.format, self.size).refused(self.size).is_none())
+        };
+        let could_begin = at..end.saturating_sub(FRAME_HEADER - 1);
+        could_begin.filter(|at| stored::kind_at(bytes, *at) == Some(FRAME_KIND)).find(is_frame)
+    }
+
+    /// Counts what was skipped as a frame where one began there, or where the header speaks of more than are found.
+    fn tell_lost(&mut self) {
+        let began = |skipped: &Skipped| stored::kind_at(self.bytes, skipped.chunk.offset) == Some(FRAME_KIND);
+        let frames = self.found.len() + self.skipped.iter().filter(|skipped| began(skipped)).count();
+        let lacks_more = self.promised.is_none_or(|promised| frames <= promised);
+        let lost = self.skipped.iter().filter(|skipped| lacks_more || began(skipped));
+        let lost: Vec<Found> = lost.map(|skipped| Found { chunk: skipped.chunk, lost: Some(skipped.why) }).collect();
+        self.found.extend(lost);
+        self.found.sort_by_key(|found| found.chunk.offset);
     }
 
     /// Reads the chunks from the front.
@@ -46,31 +133,10 @@ impl<'a> Salvage<'a> {
 
     /// Where the reel ends, and what stands behind it begins.
     pub fn reel_end(&self) -> usize {
-        let last = self.chunks.last().map_or(FILE_HEADER, Chunk::end);
+        let last = self.found.last().map_or(FILE_HEADER, |found| found.chunk.end());
         let size = StoredHeader::of(self.bytes).and_then(|header| header.reel());
         size.unwrap_or(self.bytes.len()).clamp(last, self.bytes.len())
     }
-}
-
-/// The frame chunks up to the reel's end, and why there is no further one.
-fn found(bytes: &[u8], mut end: usize, promised: Option<usize>) -> (Vec<Chunk>, Option<Refused>) {
-    let (mut chunks, mut at): (Vec<Chunk>, usize) = (Vec::new(), FILE_HEADER);
-    while chunks.len() <= MOST_FRAMES {
-        match next_frame(&bytes[..end], at) {
-            Ok(chunk) => {
-                at = chunk.end();
-                chunks.push(chunk);
-            }
-            // The size in the header may be what is wrong.
-            Err(Refused { refusal: Refusal::Cut, .. })
-                if end < bytes.len() && promised.is_none_or(|frames| chunks.len() <= frames) =>
-            {
-                end = bytes.len();
-            }
-            Err(why) => return (chunks, Some(why)),
-        }
-    }
-    (chunks, None)
 }
 
 /// What a chunk is.
@@ -84,8 +150,13 @@ pub enum Part {
 #[derive(Clone, Copy, Debug, PartialEq, Eq)]
 pub enum Fate {
     Accepted,
-    /// Accepted once so many spare bytes were taken out.
-    Tidied(usize),
+    /// Accepted after something was done to it.
+    Mended {
+        /// How many spare bytes were taken out.
+        spare: usize,
+        /// Whether it stands in an FLI, holds what only an FLC may hold, and was read as one's.
+        is_of_flc: bool,
+    },
     Dropped(Refused),
 }
 
@@ -130,35 +201,32 @@ impl Pieces<'_> {
     }
 
     fn draw(&mut self, frame: &[u8]) -> Fate {
-        let fate = match read_frame(frame, &mut self.shown) {
-            Ok(()) => Fate::Accepted,
-            Err(Refused { refusal: Refusal::SpareBytes, .. }) => return self.draw_tidied(frame),
-            Err(why) => Fate::Dropped(why),
-        };
-        self.shadow = match (self.shadow.take(), fate) {
-            (_, Fate::Dropped(_)) => Some(turned(&self.shown)),
-            (Some(mut shadow), _) => {
-                let drawn = read_frame(frame, &mut shadow);
-                Some(shadow).filter(|shadow| drawn.is_err() || *shadow != self.shown)
-            }
-            (None, _) => None,
-        };
-        fate
+        let Salvage { format, size, .. } = *self.salvage;
+        let mended = Mended::of(frame, format, size);
+        if let Err(why) = read_frame(&mended.frame, mended.format, &mut self.shown) {
+            return self.drop(why);
+        }
+        self.shadow = self.shadow.take().and_then(|mut shadow| {
+            let drawn = read_frame(&mended.frame, mended.format, &mut shadow);
+            Some(shadow).filter(|shadow| drawn.is_err() || *shadow != self.shown)
+        });
+        match (frame.len() - mended.frame.len(), mended.format != format) {
+            (0, false) => Fate::Accepted,
+            (spare, is_of_flc) => Fate::Mended { spare, is_of_flc },
+        }
     }
 
-    fn draw_tidied(&mut self, frame: &[u8]) -> Fate {
-        let tidied = tidied(frame, &self.shown);
-        match self.draw(&tidied) {
-            Fate::Accepted => Fate::Tidied(frame.len() - tidied.len()),
-            other => other,
-        }
+    /// Leaves out a frame, which could have drawn anything.
+    fn drop(&mut self, why: Refused) -> Fate {
+        self.shadow = Some(turned(&self.shown));
+        Fate::Dropped(why)
     }
 
     /// The ring stands where the header says, or leads back to frame 1 at the end of a file that isn't cut. A chunk in
     /// its place that doesn't lead back and is followed by others is a frame, and the header's count is wrong.
     fn part(&self, at: usize) -> Part {
-        let Salvage { chunks, promised, is_whole, .. } = self.salvage;
-        let (is_last, leads_back) = (at + 1 == chunks.len(), self.first.as_ref() == Some(&self.shown));
+        let Salvage { found, promised, is_whole, .. } = self.salvage;
+        let (is_last, leads_back) = (at + 1 == found.len(), self.first.as_ref() == Some(&self.shown));
         // No reel has more frames than the most: what stands behind them is the ring.
         let is_ring = match *promised == Some(at) || at == MOST_FRAMES {
             true => is_last || leads_back,
@@ -177,17 +245,20 @@ impl Iterator for Pieces<'_> {
 
     fn next(&mut self) -> Option<Piece> {
         let at = self.read;
-        let chunk = *self.salvage.chunks.get(at)?;
-        let fate = match self.draw(&self.salvage.bytes[chunk.offset..chunk.end()]) {
-            // The codec counts from the frame's header.
-            Fate::Dropped(why) => Fate::Dropped(Refused { place: chunk.offset as u64 + why.place, ..why }),
-            fate => fate,
+        let Found { chunk, lost } = *self.salvage.found.get(at)?;
+        let fate = match lost {
+            Some(why) => self.drop(why),
+            None => match self.draw(&self.salvage.bytes[chunk.offset..chunk.end()]) {
+                // The codec counts from the frame's header.
+                Fate::Dropped(why) => Fate::Dropped(Refused { place: chunk.offset as u64 + why.place, ..why }),
+                fate => fate,
+            },
         };
         let part = self.part(at);
         if self.first.is_none() && !matches!(fate, Fate::Dropped(_)) {
             self.first = Some(self.shown.clone());
         }
-        self.read = if part == Part::Ring { self.salvage.chunks.len() } else { at + 1 };
+        self.read = if part == Part::Ring { self.salvage.found.len() } else { at + 1 };
         Some(Piece { number: at + 1, part, chunk, fate, is_sure: self.shadow.is_none() })
     }
 }
@@ -198,31 +269,4 @@ fn turned(state: &State) -> State {
     turned.picture.pixels_mut().iter_mut().for_each(|pixel| *pixel = !*pixel);
     (0..=u8::MAX).for_each(|entry| turned.palette.set_colour(entry, state.palette.colour(entry).map(|level| !level)));
     turned
-}
-
-/// A frame that is refused 19, without its spare bytes: what is spare, the codec says.
-fn tidied(frame: &[u8], shown: &State) -> Vec<u8> {
-    let mut frame = frame.to_vec();
-    while let Some(place) = spare_at(&frame, shown) {
-        // Of these sizes the lower isn't refused 19 there, the higher is.
-        let (mut lower, mut higher) = (stored::CHUNK_HEADER, stored::size_at(&frame, place));
-        while lower + 1 < higher {
-            let middle = lower + (higher - lower) / 2;
-            match spare_at(&stored::with_cut(&frame, place, middle), shown) == Some(place) {
-                true => higher = middle,
-                false => lower = middle,
-            }
-        }
-        // One spare byte is accepted.
-        frame = stored::with_cut(&frame, place, lower - 1);
-    }
-    frame
-}
-
-/// The offset of the sub-chunk for whose spare bytes a frame is refused.
-fn spare_at(frame: &[u8], shown: &State) -> Option<usize> {
-    match read_frame(frame, &mut shown.clone()) {
-        Err(Refused { refusal: Refusal::SpareBytes, place }) => Some(place as usize),
-        _ => None,
-    }
 }

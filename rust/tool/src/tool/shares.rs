@@ -120,12 +120,12 @@ pub fn others(bytes: &[u8]) -> Vec<u8> {
 #[cfg(test)]
 mod tests {
     use super::*;
-    use flic::{CheckedReel, Reel, Size, State};
+    use flic::{CheckedReel, Milliseconds, Reel, Size, State};
 
     /// One frame with spare bytes, a chunk before it, bytes after the ring, and bytes behind the reel.
     fn file() -> Vec<u8> {
         let size = Size::new(2, 1).unwrap();
-        let mut reel = Reel::open(size, 70).unwrap();
+        let mut reel = Reel::open(size, Milliseconds(70)).unwrap();
         let mut state = State::blank(size);
         state.picture.pixels_mut().copy_from_slice(&[1, 2]);
         state.palette.set_colour(1, [9; 3]);

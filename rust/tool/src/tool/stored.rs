@@ -3,7 +3,7 @@
 //! taken from the bytes here, and nowhere else in this tool and its crate. Whether a file is right, where its frames lie
 //! and which of them can be read, the codec says.
 
-use flic::{Chunk, FILE_HEADER};
+use flic::{Chunk, Format, Jiffies, Milliseconds, FILE_HEADER};
 use std::iter;
 
 /// The bytes of a frame chunk's header and of any other chunk's.
@@ -12,72 +12,111 @@ pub const CHUNK_HEADER: usize = 6;
 /// A frame chunk, and the chunk that Animator Pro puts before the first.
 pub const FRAME_KIND: u16 = 0xF1FA;
 const PREFIX_KIND: u16 = 0xF100;
+/// The magics of the two formats.
+pub const FLC_MAGIC: u16 = 0xAF12;
+pub const FLI_MAGIC: u16 = 0xAF11;
+const MAGIC_AT: usize = 4;
 const FRAMES_AT: usize = 6;
 const FLAGS_AT: usize = 14;
-/// Of the first and the second frame.
+/// Where the header of an FLI ends: what follows isn't read.
+const FLI_END: usize = 18;
+/// Of the first and the second frame of an FLC.
 const OFFSETS_AT: [usize; 2] = [80, 84];
-/// The flags of a closed reel.
-const CLOSED: u16 = 3;
 
 /// The fields of a file header, with the names of the Animator Pro document.
 #[derive(Clone, Copy, Debug, PartialEq, Eq)]
 pub struct StoredHeader {
     /// The bytes of the reel, this header included; a trailer stands behind them.
     pub size: u32,
-    /// Hex AF12.
     pub magic: u16,
     /// How many frames there are, the ring not counted.
     pub frames: u16,
     pub width: u16,
     pub height: u16,
     pub depth: u16,
-    /// 3 once the reel is closed.
     pub flags: u16,
-    /// For how many milliseconds a frame shows.
-    pub speed: u32,
+    pub rest: Rest,
+}
+
+/// What stands behind the flags.
+#[derive(Clone, Copy, Debug, PartialEq, Eq)]
+pub enum Rest {
+    Flc {
+        speed: Milliseconds,
+        made: Made,
+        /// The offset of the first frame.
+        oframe1: u32,
+        /// The offset of the second frame, or of the ring if there is one frame.
+        oframe2: u32,
+    },
+    Fli {
+        delay: Jiffies,
+        /// Whether any of the bytes that aren't read isn't 0.
+        has_more: bool,
+    },
+}
+
+/// What an FLC says of whoever made it and when.
+#[derive(Clone, Copy, Debug, PartialEq, Eq)]
+pub struct Made {
     pub created: u32,
     pub creator: u32,
     pub updated: u32,
     pub updater: u32,
     pub aspect_x: u16,
     pub aspect_y: u16,
-    /// The offset of the first frame.
-    pub oframe1: u32,
-    /// The offset of the second frame, or of the ring if there is one frame.
-    pub oframe2: u32,
 }
 
+/// As it stands in an FLC of 320 by 200 that this tool makes.
+const MADE_HERE: Made =
+    Made { created: 0, creator: 0x464C_4942, updated: 0, updater: 0x464C_4942, aspect_x: 6, aspect_y: 5 };
+
 impl StoredHeader {
-    /// The header at the front of the bytes, checked in no way; none where there are fewer than 128.
+    /// The header at the front of the bytes, checked in no way; none where there are fewer than 128. What has neither
+    /// magic is read as an FLC's.
     pub fn of(bytes: &[u8]) -> Option<StoredHeader> {
         if bytes.len() < FILE_HEADER {
             return None;
         }
         Some(StoredHeader {
             size: long_at(bytes, 0),
-            magic: word_at(bytes, 4),
+            magic: word_at(bytes, MAGIC_AT),
             frames: word_at(bytes, FRAMES_AT),
             width: word_at(bytes, 8),
             height: word_at(bytes, 10),
             depth: word_at(bytes, 12),
             flags: word_at(bytes, FLAGS_AT),
-            speed: long_at(bytes, 16),
-            created: long_at(bytes, 22),
-            creator: long_at(bytes, 26),
-            updated: long_at(bytes, 30),
-            updater: long_at(bytes, 34),
-            aspect_x: word_at(bytes, 38),
-            aspect_y: word_at(bytes, 40),
-            oframe1: long_at(bytes, OFFSETS_AT[0]),
-            oframe2: long_at(bytes, OFFSETS_AT[1]),
+            rest: match format_of(bytes) {
+                Some(Format::Fli) => Rest::Fli {
+                    delay: Jiffies(word_at(bytes, 16)),
+                    has_more: bytes[FLI_END..FILE_HEADER].iter().any(|byte| *byte != 0),
+                },
+                _ => Rest::Flc {
+                    speed: Milliseconds(long_at(bytes, 16)),
+                    made: Made::of(bytes),
+                    oframe1: long_at(bytes, OFFSETS_AT[0]),
+                    oframe2: long_at(bytes, OFFSETS_AT[1]),
+                },
+            },
         })
     }
-}
 
-impl StoredHeader {
-    /// Whether the reel was closed.
+    /// By the magic.
+    pub fn format(&self) -> Option<Format> {
+        format_with(self.magic)
+    }
+
+    /// The flags that a closed reel of this format has.
+    pub fn flags_of_closed(&self) -> u16 {
+        flags_of(self.format())
+    }
+
+    /// Whether the reel was closed. The flags of an FLI don't say so, but its size, which the close sets.
     pub fn is_closed(&self) -> bool {
-        self.flags == CLOSED
+        match self.format() {
+            Some(Format::Fli) => self.size != 0,
+            _ => self.flags == self.flags_of_closed(),
+        }
     }
 
     /// The bytes of the reel, where a closed file says so.
@@ -86,21 +125,65 @@ impl StoredHeader {
     }
 }
 
-/// What a file header says of whoever made a file and when, and another one doesn't.
-pub fn lost(before: &StoredHeader, after: &StoredHeader) -> Vec<String> {
-    let mut lost = Vec::new();
-    let mut compare = |before: String, after: String| {
-        if before != after {
-            lost.push(before);
+impl Made {
+    fn of(header: &[u8]) -> Made {
+        Made {
+            created: long_at(header, 22),
+            creator: long_at(header, 26),
+            updated: long_at(header, 30),
+            updater: long_at(header, 34),
+            aspect_x: word_at(header, 38),
+            aspect_y: word_at(header, 40),
         }
-    };
-    compare(format!("created {}", date(before.created)), format!("created {}", date(after.created)));
-    compare(format!("creator {:08X}", before.creator), format!("creator {:08X}", after.creator));
-    compare(format!("updated {}", date(before.updated)), format!("updated {}", date(after.updated)));
-    compare(format!("updater {:08X}", before.updater), format!("updater {:08X}", after.updater));
-    let aspect = |header: &StoredHeader| format!("aspect {}:{}", header.aspect_x, header.aspect_y);
-    compare(aspect(before), aspect(after));
-    lost
+    }
+
+    fn words(&self) -> [String; 5] {
+        [
+            format!("created {}", date(self.created)),
+            format!("creator {:08X}", self.creator),
+            format!("updated {}", date(self.updated)),
+            format!("updater {:08X}", self.updater),
+            format!("aspect {}:{}", self.aspect_x, self.aspect_y),
+        ]
+    }
+}
+
+/// The format of a file that begins so, by its magic alone.
+pub fn format_of(bytes: &[u8]) -> Option<Format> {
+    format_with(word_at(bytes.get(..MAGIC_AT + 2)?, MAGIC_AT))
+}
+
+fn format_with(magic: u16) -> Option<Format> {
+    match magic {
+        FLC_MAGIC => Some(Format::Flc),
+        FLI_MAGIC => Some(Format::Fli),
+        _ => None,
+    }
+}
+
+fn flags_of(format: Option<Format>) -> u16 {
+    match format {
+        Some(Format::Fli) => 0,
+        _ => 3,
+    }
+}
+
+/// What a file header says beside its reel, and the one that was written in its place doesn't.
+pub fn lost(before: &StoredHeader, after: &StoredHeader) -> Vec<String> {
+    match (before.rest, after.rest) {
+        (Rest::Flc { made: before, .. }, Rest::Flc { made: after, .. }) => lost_of(&before, &after),
+        // What stands in every FLC that is made here isn't missed in an FLI.
+        (Rest::Flc { made, .. }, Rest::Fli { .. }) => lost_of(&made, &MADE_HERE),
+        (Rest::Fli { has_more: true, .. }, _) => {
+            vec![format!("bytes {FLI_END} to {} of the header, which no one reads", FILE_HEADER - 1)]
+        }
+        (Rest::Fli { has_more: false, .. }, _) => Vec::new(),
+    }
+}
+
+fn lost_of(before: &Made, after: &Made) -> Vec<String> {
+    let pairs = before.words().into_iter().zip(after.words());
+    pairs.filter(|(before, after)| before != after).map(|(before, _)| before).collect()
 }
 
 /// A date and time in MS-DOS format, or its number where it is none.
@@ -129,8 +212,11 @@ pub fn with_others(bytes: &[u8], frames: &[Chunk], others: &[Vec<u8>]) -> Vec<u8
     }
     let size = whole.len();
     set_long(&mut whole, 0, size);
-    for (at, offset) in OFFSETS_AT.into_iter().zip(offsets) {
-        set_long(&mut whole, at, offset);
+    // An FLI has no room for them.
+    if format_of(bytes) != Some(Format::Fli) {
+        for (at, offset) in OFFSETS_AT.into_iter().zip(offsets) {
+            set_long(&mut whole, at, offset);
+        }
     }
     whole
 }
@@ -142,9 +228,15 @@ pub fn mended(bytes: &[u8]) -> Vec<u8> {
     if header.len() == FILE_HEADER {
         set_long(&mut header, 0, FILE_HEADER);
         header[FRAMES_AT..FRAMES_AT + 2].copy_from_slice(&1u16.to_le_bytes());
-        header[FLAGS_AT..FLAGS_AT + 2].copy_from_slice(&CLOSED.to_le_bytes());
+        let flags = flags_of(format_of(bytes));
+        header[FLAGS_AT..FLAGS_AT + 2].copy_from_slice(&flags.to_le_bytes());
     }
     header
+}
+
+/// The kind that a chunk's header has, at this offset; none where no header is there.
+pub fn kind_at(bytes: &[u8], at: usize) -> Option<u16> {
+    bytes.get(at..at.checked_add(CHUNK_HEADER)?).map(|header| word_at(header, 4))
 }
 
 /// The size that a chunk's header has, at this offset.
@@ -219,13 +311,18 @@ fn set_long(bytes: &mut [u8], at: usize, number: usize) {
 #[cfg(test)]
 mod tests {
     use super::*;
+    use flic::{Reel, Size, State};
 
-    #[test]
-    fn every_field_has_its_own_bytes() {
+    fn counted() -> [u8; FILE_HEADER] {
         let mut bytes = [0; FILE_HEADER];
         for (at, byte) in bytes.iter_mut().enumerate() {
             *byte = at as u8;
         }
+        bytes
+    }
+
+    #[test]
+    fn every_field_has_its_own_bytes() {
         let expected = StoredHeader {
             size: 0x0302_0100,
             magic: 0x0504,
@@ -234,18 +331,57 @@ mod tests {
             height: 0x0B0A,
             depth: 0x0D0C,
             flags: 0x0F0E,
-            speed: 0x1312_1110,
-            created: 0x1918_1716,
-            creator: 0x1D1C_1B1A,
-            updated: 0x2120_1F1E,
-            updater: 0x2524_2322,
-            aspect_x: 0x2726,
-            aspect_y: 0x2928,
-            oframe1: 0x5352_5150,
-            oframe2: 0x5756_5554,
+            rest: Rest::Flc {
+                speed: Milliseconds(0x1312_1110),
+                made: Made {
+                    created: 0x1918_1716,
+                    creator: 0x1D1C_1B1A,
+                    updated: 0x2120_1F1E,
+                    updater: 0x2524_2322,
+                    aspect_x: 0x2726,
+                    aspect_y: 0x2928,
+                },
+                oframe1: 0x5352_5150,
+                oframe2: 0x5756_5554,
+            },
         };
-        assert_eq!(StoredHeader::of(&bytes), Some(expected));
-        assert_eq!(StoredHeader::of(&bytes[1..]), None);
+        assert_eq!(StoredHeader::of(&counted()), Some(expected));
+        assert_eq!(StoredHeader::of(&counted()[1..]), None);
+    }
+
+    #[test]
+    fn an_fli_has_its_delay_and_nothing_behind() {
+        let mut bytes = counted();
+        bytes[MAGIC_AT..MAGIC_AT + 2].copy_from_slice(&FLI_MAGIC.to_le_bytes());
+        let rest = |bytes: &[u8]| StoredHeader::of(bytes).unwrap().rest;
+        assert_eq!(rest(&bytes), Rest::Fli { delay: Jiffies(0x1110), has_more: true });
+        bytes[FLI_END..].fill(0);
+        assert_eq!(rest(&bytes), Rest::Fli { delay: Jiffies(0x1110), has_more: false });
+        for at in [FLI_END, FILE_HEADER - 1] {
+            let mut more = bytes;
+            more[at] = 1;
+            assert_eq!(rest(&more), Rest::Fli { delay: Jiffies(0x1110), has_more: true });
+        }
+    }
+
+    #[test]
+    fn the_magic_is_the_format() {
+        assert_eq!(format_of(&[0, 0, 0, 0, 0x12, 0xAF]), Some(Format::Flc));
+        assert_eq!(format_of(&[0, 0, 0, 0, 0x11, 0xAF]), Some(Format::Fli));
+        assert_eq!((format_of(&[0, 0, 0, 0, 0x10, 0xAF]), format_of(&[0, 0, 0, 0, 0x12])), (None, None));
+    }
+
+    #[test]
+    fn a_reel_of_this_tool_loses_nothing_in_the_other_format() {
+        let header = |format| {
+            let mut reel = Reel::open_as(format, Size::FLI, Milliseconds(100)).unwrap();
+            reel.add(&State::blank(Size::FLI)).unwrap();
+            StoredHeader::of(&reel.close().unwrap()).unwrap()
+        };
+        let (flc, fli) = (header(Format::Flc), header(Format::Fli));
+        assert_eq!((lost(&flc, &fli), lost(&fli, &flc)), (vec![], vec![]));
+        let more = StoredHeader { rest: Rest::Fli { delay: Jiffies(7), has_more: true }, ..fli };
+        assert_eq!(lost(&more, &fli), ["bytes 18 to 127 of the header, which no one reads"]);
     }
 
     #[test]
@@ -256,10 +392,10 @@ mod tests {
 
     #[test]
     fn only_what_differs_is_lost() {
-        let header = StoredHeader::of(&[0; FILE_HEADER]).unwrap();
-        let other = StoredHeader { creator: 0x464C_4942, aspect_x: 6, aspect_y: 5, speed: 9, ..header };
-        assert_eq!(lost(&header, &header), [""; 0]);
-        assert_eq!(lost(&other, &header), ["creator 464C4942", "aspect 6:5"]);
+        let made = Made { created: 0, creator: 0, updated: 0, updater: 0, aspect_x: 0, aspect_y: 0 };
+        let other = Made { creator: 0x464C_4942, aspect_x: 6, aspect_y: 5, ..made };
+        assert_eq!(lost_of(&made, &made), [""; 0]);
+        assert_eq!(lost_of(&other, &made), ["creator 464C4942", "aspect 6:5"]);
     }
 
     /// A frame of count 2: BLACK, an unknown kind with one byte, and a third that the count leaves out.

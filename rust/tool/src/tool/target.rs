@@ -5,12 +5,14 @@ use super::failure::{wrong, Outcome};
 use super::name::Shown;
 use super::numbers::counted;
 use super::say::{complain, say};
+use super::stored::format_of;
 use super::{files, house};
-use flic::CheckedReel;
+use flic::{CheckedReel, Format};
 use std::fs;
 use std::path::Path;
 
-pub const FORCE: Opt = Opt { name: "--force", value: None, about: "replaces OUT if it is a FLC file, whoever made it" };
+pub const FORCE: Opt =
+    Opt { name: "--force", value: None, about: "replaces OUT if it is an FLC or FLI file, whoever made it" };
 
 /// Where a reel is written to; `-` is standard output.
 pub struct Target<'a> {
@@ -20,7 +22,7 @@ pub struct Target<'a> {
 }
 
 impl<'a> Target<'a> {
-    /// Refuses a path whose loss would be noticed: anything but a FLC file, and without --force a FLC file that isn't
+    /// Refuses a path whose loss would be noticed: anything but an FLC or FLI file, and without --force one that isn't
     /// as this tool writes them.
     pub fn new(path: &'a Path, is_forced: bool) -> Outcome<Target<'a>> {
         files::may_be_replaced(path)?;
@@ -34,7 +36,10 @@ impl<'a> Target<'a> {
             Ok(reel) => {
                 format!("{} and the ring, {}", counted(reel.header().frames.into(), "frame"), counted(there, "byte"))
             }
-            Err(_) => format!("a FLC file of {} that a check refuses", counted(there, "byte")),
+            Err(_) => {
+                let format = format_of(&bytes).unwrap_or(Format::Flc);
+                format!("an {format} file of {} that a check refuses", counted(there, "byte"))
+            }
         };
         if !is_forced && !reel.is_ok_and(|reel| house::is_house(&reel, &bytes)) {
             return wrong(format!(

@@ -1,13 +1,11 @@
 //! The reels in folders.
 
 use super::files;
+use super::formats::named;
 use super::name::Shown;
 use std::fs::{self, DirEntry};
 use std::io;
 use std::path::{Path, PathBuf};
-
-/// How the names of reels end, in small or large letters.
-const ENDS: [&str; 2] = ["flc", "fli"];
 
 /// A file to be looked at, or why there is none.
 pub type Found = Result<PathBuf, (PathBuf, String)>;
@@ -42,7 +40,7 @@ fn go_down(folder: &Path, found: &mut Vec<Found>) {
         let path = entry.path();
         if entry.file_type().is_ok_and(|kind| kind.is_dir()) {
             go_down(&path, found);
-        } else if is_named_so(&path) && !path.is_dir() {
+        } else if named(&path).is_some() && !path.is_dir() {
             found.push(Ok(path));
         }
     }
@@ -52,8 +50,4 @@ fn sorted(folder: &Path) -> io::Result<Vec<DirEntry>> {
     let mut entries = fs::read_dir(folder)?.collect::<io::Result<Vec<DirEntry>>>()?;
     entries.sort_by_key(DirEntry::file_name);
     Ok(entries)
-}
-
-fn is_named_so(file: &Path) -> bool {
-    file.extension().is_some_and(|end| ENDS.iter().any(|known| end.eq_ignore_ascii_case(known)))
 }

@@ -4,7 +4,7 @@
 mod browser;
 
 use browser::Pages;
-use flic::{CheckedReel, Reel, Size, State};
+use flic::{CheckedReel, Milliseconds, Reel, Size, State};
 use std::fs;
 use std::path::{Path, PathBuf};
 
@@ -35,12 +35,12 @@ const STEPS: &str = "<script>
     document.body.append(said);
 </script>";
 
-/// Writes down when each picture is drawn, in milliseconds of the page's time, as it plays by itself.
+/// Writes down when each picture is drawn, in milliseconds since the page began to play, as it plays by itself.
 const WATCH: &str = "<script>
     const said = document.createElement('pre');
     said.id = 'said';
     document.body.append(said);
-    const began = performance.now();
+    const began = last;
     new MutationObserver(() => {
         said.textContent += Math.round(performance.now() - began) + ' ' + where.textContent + '\\n';
     }).observe(where, {childList: true});
@@ -52,7 +52,8 @@ fn repository() -> PathBuf {
 
 fn files(directory: &str) -> Vec<PathBuf> {
     let entries = fs::read_dir(repository().join(directory)).unwrap().map(|entry| entry.unwrap().path());
-    let mut files: Vec<PathBuf> = entries.filter(|file| file.extension().is_some_and(|end| end == "flc")).collect();
+    let is_reel = |file: &PathBuf| file.extension().is_some_and(|end| end == "flc" || end == "fli");
+    let mut files: Vec<PathBuf> = entries.filter(is_reel).collect();
     files.sort();
     files
 }
@@ -106,6 +107,7 @@ fn two_laps_show_what_the_library_shows() {
     // Samples that are wrong on purpose make no page.
     files.retain(|file| CheckedReel::new(fs::read(file).unwrap()).is_ok());
     assert!(files.len() > 50, "{}", files.len());
+    assert!(files.iter().any(|file| file.ends_with("samples/board.fli")), "an FLI is among them");
     compare(&Pages::new(), &files);
 }
 
@@ -120,7 +122,7 @@ fn pictures_of_noise_and_of_odd_widths_are_read() {
     let mut files = Vec::new();
     for (width, height) in [(320, 200), (319, 3), (1, 1), (1, 200), (320, 1)] {
         let size = Size::new(width, height).unwrap();
-        let (mut reel, mut state) = (Reel::open(size, 40).unwrap(), State::blank(size));
+        let (mut reel, mut state) = (Reel::open(size, Milliseconds(40)).unwrap(), State::blank(size));
         for _ in 0..6 {
             // Some frames change much, some little, and some only colours.
             let share = random();

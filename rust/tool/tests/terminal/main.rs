@@ -69,6 +69,20 @@ fn colours_that_change_alone_are_seen() {
 
 #[test]
 #[ignore = "needs tmux"]
+fn an_fli_shows_its_pixels() {
+    let first = full_size(&states("board.fli")[0]);
+    let pane = Pane::new(330, 110, &play("board.fli", "--speed 600000"));
+    pane.until("frame 1", || pane.screen().starts_with(&first));
+    assert_eq!(pane.text().lines().nth(100), Some("lap 1, frame 1 of 48; q ends"));
+    pane.press(&["q"]);
+    let ended = pane.ended();
+    let said = format!("{}: ended in lap 1, at frame 1 of 48\nstatus 0", sample("board.fli").display());
+    assert_eq!(ended.said(), said);
+    ended.assert_restored();
+}
+
+#[test]
+#[ignore = "needs tmux"]
 fn q_and_ctrl_c_end_it_and_no_other_key_does() {
     let first = full_size(&states("menu.flc")[0]);
     for key in ["q", "C-c"] {

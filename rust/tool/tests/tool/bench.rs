@@ -32,6 +32,14 @@ impl Run {
     }
 }
 
+/// A number as the tool writes it, with a comma after each thousand.
+pub fn grouped(number: usize) -> String {
+    match number {
+        0..1_000 => number.to_string(),
+        _ => format!("{},{:03}", grouped(number / 1_000), number % 1_000),
+    }
+}
+
 impl Bench {
     pub fn new() -> Bench {
         static NUMBER: AtomicUsize = AtomicUsize::new(0);
@@ -52,11 +60,19 @@ impl Bench {
 
     /// A bench with `reel.flc`, built of the pictures.
     pub fn with_reel(pictures: &[Vec<u8>]) -> Bench {
+        Bench::with_built(pictures, &["reel.flc", "--speed", "70"])
+    }
+
+    /// A bench with `reel.fli`, built of the pictures, which are 320 by 200.
+    pub fn with_fli(pictures: &[Vec<u8>]) -> Bench {
+        Bench::with_built(pictures, &["reel.fli", "--jiffies", "5"])
+    }
+
+    fn with_built(pictures: &[Vec<u8>], reel: &[&str]) -> Bench {
         let bench = Bench::with_pictures(pictures);
         let names: Vec<String> = (1..=pictures.len()).map(|number| format!("{number}.ppm")).collect();
-        let mut words = vec!["build", "reel.flc", "--speed", "70"];
-        words.extend(names.iter().map(String::as_str));
-        bench.done(&words);
+        let names: Vec<&str> = names.iter().map(String::as_str).collect();
+        bench.done(&[&["build"], reel, &names].concat());
         bench
     }
 

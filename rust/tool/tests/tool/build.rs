@@ -1,7 +1,7 @@
 //! `flic build`.
 
 use crate::bench::Bench;
-use crate::pictures::{pictures, ppm};
+use crate::pictures::{full_size, pictures, ppm};
 use crate::reels::sloppy;
 use std::collections::HashSet;
 use std::os::unix::fs::symlink;
@@ -100,7 +100,7 @@ fn only_a_reel_is_replaced() {
     let pictures = pictures(2);
     let bench = Bench::with_reel(&pictures);
     let err = bench.fails(1, &["build", "1.ppm", "--speed", "70", "2.ppm"]);
-    assert!(err.starts_with("flic: 1.ppm: is there already and isn't a FLC file"), "{err}");
+    assert!(err.starts_with("flic: 1.ppm: is there already and isn't an FLC or FLI file"), "{err}");
     assert_eq!(bench.read("1.ppm"), pictures[0]);
     assert!(bench.fails(1, &["build", ".", "--speed", "70", "2.ppm"]).starts_with("flic: .: is a directory"));
 
@@ -146,12 +146,12 @@ fn a_reel_that_another_tool_made_is_replaced_only_by_force() {
     assert_eq!(bench.read("reel.flc"), sloppy);
     bench.write("reel.flc", &sloppy[..1_000]);
     let err = bench.fails(1, &["build", "reel.flc", "--speed", "70", "1.ppm"]);
-    assert!(err.contains("is there already, a FLC file of 1,000 bytes that a check refuses, "), "{err}");
+    assert!(err.contains("is there already, an FLC file of 1,000 bytes that a check refuses, "), "{err}");
     let said = bench.done(&["build", "reel.flc", "--speed", "70", "1.ppm", "--force"]);
-    assert!(said.ends_with(" bytes, in place of a FLC file of 1,000 bytes that a check refuses\n"), "{said}");
+    assert!(said.ends_with(" bytes, in place of an FLC file of 1,000 bytes that a check refuses\n"), "{said}");
     // What isn't a reel isn't replaced by force either.
     let err = bench.fails(1, &["build", "1.ppm", "--speed", "70", "2.ppm", "--force"]);
-    assert!(err.starts_with("flic: 1.ppm: is there already and isn't a FLC file"), "{err}");
+    assert!(err.starts_with("flic: 1.ppm: is there already and isn't an FLC or FLI file"), "{err}");
     // An empty file holds nothing.
     bench.write("reel.flc", b"");
     let said = bench.done(&["build", "reel.flc", "--speed", "70", "1.ppm"]);
@@ -248,4 +248,71 @@ fn what_is_asked_for_wrongly_is_said() {
     assert!(error(&["--dither"]).starts_with("flic: --dither is for --colours N\n"));
     assert!(error(&["--colours", "257"]).starts_with("flic: --colours takes 2 to 256, not 257\n"));
     assert!(error(&["--colours", "1"]).starts_with("flic: --colours takes a whole number from 2 to "));
+}
+
+#[test]
+fn an_fli_by_its_name_or_by_its_option() {
+    let pictures = full_size(3);
+    let bench = Bench::with_fli(&pictures);
+    let fli = bench.read("reel.fli");
+    // Magic, frames, 320 by 200, depth 8, flags 0, 5 jiffies, and nothing more in the header.
+    assert_eq!(fli[4..18], [0x11, 0xAF, 3, 0, 0x40, 1, 200, 0, 8, 0, 0, 0, 5, 0]);
+    assert_eq!(fli[18..128], [0; 110]);
+    let mut shown = pictures.clone();
+    shown.push(pictures[0].clone());
+    assert_eq!(bench.frames("reel.fli", "1"), shown);
+    for words in [&["A.FLI"][..], &["a.fli", "--fli"], &["reel", "--fli"]] {
+        let said = bench.done(&[&["build"], words, &["--jiffies", "5", "1.ppm", "2.ppm", "3.ppm"]].concat());
+        assert_eq!(said.lines().count(), 1, "{said}");
+        assert_eq!(bench.read(words[0]), fli, "{words:?}");
+    }
+    let output = bench.command(&["build", "-", "--fli", "--jiffies", "5", "1.ppm", "2.ppm", "3.ppm"]).output().unwrap();
+    assert_eq!(output.stdout, fli);
+    let err = bench.fails(2, &["build", "new.flc", "--fli", "--jiffies", "5", "1.ppm"]);
+    let expected =
+        "flic: --fli makes an FLI, and new.flc is a name for an FLC: give one that ends in .fli, or leave --fli out\n";
+    assert!(err.starts_with(expected), "{err}");
+}
+
+#[test]
+fn a_delay_in_milliseconds_becomes_jiffies_and_is_said_where_it_is_not_exact() {
+    let bench = Bench::with_pictures(&full_size(1));
+    let jiffies = |speed: &str| {
+        let said = bench.done(&["build", "reel.fli", "--speed", speed, "1.ppm", "--force"]);
+        let bytes = bench.read("reel.fli");
+        (u16::from_le_bytes([bytes[16], bytes[17]]), said.lines().next().unwrap_or_default().to_string())
+    };
+    let (count, said) = jiffies("100");
+    assert!(count == 7 && said.starts_with("reel.fli: 1 frame and the ring, "), "{count}: {said}");
+    assert_eq!(jiffies("250"), (18, "reel.fli: 250 ms a frame become 18 jiffies, rounded up: 257 ms".to_string()));
+    assert_eq!(jiffies("257"), (18, "reel.fli: 257 ms a frame become 18 jiffies, rounded up: 257 ms".to_string()));
+    assert_eq!(jiffies("1"), (1, "reel.fli: 1 ms a frame become 1 jiffy, rounded up: 14 ms".to_string()));
+    assert_eq!((jiffies("0").0, jiffies("936214").0), (0, 65_535));
+    let error = |words: &[&str]| bench.fails(2, &[&["build", "reel.fli", "1.ppm"], words].concat());
+    assert!(error(&["--speed", "936215"]).starts_with("flic: --speed takes 0 to 936214 for an FLI, not 936215\n"));
+    assert!(error(&["--jiffies", "65536"]).starts_with("flic: --jiffies takes 0 to 65535, not 65536\n"));
+    assert!(error(&["--jiffies", "x"]).starts_with("flic: --jiffies takes a whole number from 0 to "));
+    assert!(error(&[]).starts_with("flic: --speed MS or --jiffies J is missing: "));
+    let both = "flic: --speed and --jiffies are two ways to say one thing: give one\n";
+    assert!(error(&["--jiffies", "5", "--speed", "70"]).starts_with(both));
+    let err = bench.fails(2, &["build", "reel.flc", "--jiffies", "5", "1.ppm"]);
+    assert!(err.starts_with("flic: --jiffies is for an FLI: give --speed MS, or make an FLI with --fli\n"), "{err}");
+}
+
+#[test]
+fn what_an_fli_cannot_have_is_said() {
+    let bench =
+        Bench::with_pictures(&[full_size(1).remove(0), ppm(320, 199, |_, _| [0; 3]), ppm(640, 400, |_, _| [9; 3])]);
+    let build = ["build", "reel.fli", "--jiffies", "5"];
+    let error = |status, words: &[&str]| bench.fails(status, &[&build, words].concat());
+    let advice = "an FLI is 320 by 200: give --scale 320x200, or scale it first\n";
+    assert_eq!(error(1, &["2.ppm"]), format!("flic: 2.ppm: is 320 by 199; {advice}"));
+    assert_eq!(error(1, &["1.ppm", "3.ppm"]), format!("flic: 3.ppm: is 640 by 400; {advice}"));
+    let scale = error(2, &["3.ppm", "--scale", "160x100"]);
+    let expected = "flic: --scale takes 320x200 for an FLI, whose pictures are of no other size, not 160x100\n";
+    assert!(scale.starts_with(expected), "{scale}");
+    let trailer = error(2, &["1.ppm", "--trailer"]);
+    assert!(trailer.starts_with("flic: --trailer is for an FLC: an FLI has none, "), "{trailer}");
+    bench.done(&[&build[..], &["1.ppm", "2.ppm", "3.ppm", "--scale", "320x200"]].concat());
+    assert_eq!(bench.done(&["check", "reel.fli"]), "reel.fli: ok\n");
 }

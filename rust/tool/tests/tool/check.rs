@@ -1,8 +1,9 @@
 //! `flic check`.
 
 use crate::bench::Bench;
-use crate::pictures::pictures;
-use flic::{write_frame, CheckedReel};
+use crate::pictures::{full_size, pictures};
+use crate::reels::{in_form_of_flc, sized};
+use flic::{write_frame, CheckedReel, Format};
 use std::fs;
 use std::os::unix::fs::{symlink, PermissionsExt};
 
@@ -62,7 +63,7 @@ fn a_ring_written_from_frame_1_to_itself_is_found() {
     let ring = reel.frame_chunks()[3].offset;
     let first = reel.frames().next().unwrap().state;
     let mut wrong = right[..ring].to_vec();
-    wrong.extend(write_frame(&first, &first).unwrap());
+    wrong.extend(write_frame(Format::Flc, &first, &first).unwrap());
     let size = wrong.len() as u32;
     wrong[..4].copy_from_slice(&size.to_le_bytes());
     let line = refusal(&bench, &wrong);
@@ -174,8 +175,8 @@ fn a_refusal_says_what_was_found_and_what_to_do() {
         (image(b"\x89PNG\r\n\x1a\n"), "5 at offset 0, in the file header: this is a PNG picture; make a reel from pictures with flic build".to_string()),
         (b"GIF89a".to_vec(), "4 at offset 0, in the file header: this is a GIF; write its pictures out with the tool that made it, then make a reel from them with flic build".to_string()),
         (image(b"P6\n320 200\n255\n"), "5 at offset 0, in the file header: this is a PPM picture; make a reel from pictures with flic build".to_string()),
-        (with(&[(4, 0x11)]), "5 at offset 0, in the file header: this is a FLI file of the original Animator; convert it with the tool that made it, or write its pictures out and give them to flic build".to_string()),
-        (image(&[7]), "5 at offset 0, in the file header: this isn't a FLC file: its magic is 0707, not AF12; check which file it is".to_string()),
+        (with(&[(4, 0x11)]), "2 at offset 0, in the file header: it is 37 by 21, and an FLI is 320 by 200; make it anew from pictures of that size, or as an FLC".to_string()),
+        (image(&[7]), "5 at offset 0, in the file header: this is neither an FLC nor an FLI: its magic is 0707, not AF12 or AF11; check which file it is".to_string()),
         ([&right[..], &[1, 2]].concat(), "17 at offset 0, in the trailer: the 2 bytes behind the reel aren't its trailer; write it anew with flic trailer write FILE".to_string()),
     ];
     for (bytes, expected) in cases {
@@ -238,8 +239,91 @@ fn as_json() {
     let bench = boards();
     bench.write("boards/a\"\n.flc", b"GIF89a");
     let run = bench.run(&["check", "--json", "boards", "missing.flc"]);
-    let expected = r#"{"files":[{"file":"boards/a\"\u000a.flc","ok":false,"refusal":{"number":4,"name":"Cut","offset":0,"part":"the file header","found":"this is a GIF","advice":"write its pictures out with the tool that made it, then make a reel from them with flic build"},"error":null},{"file":"boards/a.flc","ok":true,"refusal":null,"error":null},{"file":"boards/cut.fli","ok":false,"refusal":{"number":4,"name":"Cut","offset":0,"part":"the file header","found":"it has 200 of 2,067 bytes","advice":"copy the file anew"},"error":null},{"file":"boards/hall/old/MENU.FLC","ok":true,"refusal":null,"error":null},{"file":"missing.flc","ok":false,"refusal":null,"error":"missing.flc: can't be read: No such file or directory (os error 2); check the name and the directory"}],"ok":2,"refused":2,"unread":1}"#;
+    let expected = r#"{"files":[{"file":"boards/a\"\u000a.flc","format":null,"ok":false,"refusal":{"number":4,"name":"Cut","offset":0,"part":"the file header","found":"this is a GIF","advice":"write its pictures out with the tool that made it, then make a reel from them with flic build"},"error":null},{"file":"boards/a.flc","format":"FLC","ok":true,"refusal":null,"error":null},{"file":"boards/cut.fli","format":"FLC","ok":false,"refusal":{"number":4,"name":"Cut","offset":0,"part":"the file header","found":"it has 200 of 2,067 bytes","advice":"copy the file anew"},"error":null},{"file":"boards/hall/old/MENU.FLC","format":"FLC","ok":true,"refusal":null,"error":null},{"file":"missing.flc","format":null,"ok":false,"refusal":null,"error":"missing.flc: can't be read: No such file or directory (os error 2); check the name and the directory"}],"ok":2,"refused":2,"unread":1}"#;
     assert_eq!((run.status, run.out.trim_end(), run.err.as_str()), (1, expected, ""));
     let quiet = bench.run(&["check", "--json", "-q", "reel.flc"]);
     assert_eq!((quiet.status, quiet.out.as_str()), (0, "{\"files\":[],\"ok\":1,\"refused\":0,\"unread\":0}\n"));
+}
+
+/// The line that the check prints of `reel.fli` once it has these bytes, with exit status 1.
+fn refusal_of_fli(bench: &Bench, bytes: &[u8]) -> String {
+    bench.write("reel.fli", bytes);
+    let run = bench.run(&["check", "reel.fli"]);
+    assert_eq!((run.status, run.err.as_str()), (1, ""), "{}", run.out);
+    run.out
+}
+
+#[test]
+fn an_fli_is_checked_by_its_magic() {
+    let bench = Bench::with_fli(&full_size(3));
+    assert_eq!(bench.done(&["check", "reel.fli"]), "reel.fli: ok\n");
+    let right = bench.read("reel.fli");
+    // An FLI has no trailer, and nothing behind it is one.
+    bench.write("reel.fli", &[&right[..], &[7; 50]].concat());
+    assert_eq!(bench.done(&["check", "reel.fli"]), "reel.fli: ok\n");
+    bench.write("reel.flc", &right);
+    let other = "reel.flc: ok, but it is an FLI: rename it to end in .fli, or make an FLC of it with flic convert\n";
+    assert_eq!(bench.done(&["check", "reel.flc"]), other);
+    bench.done(&["build", "right.flc", "--speed", "70", "1.ppm"]);
+    bench.write("Wrong.FLI", &bench.read("right.flc"));
+    let other = "Wrong.FLI: ok, but it is an FLC: rename it to end in .flc, or make an FLI of it with flic convert\n";
+    assert_eq!(bench.done(&["check", "Wrong.FLI"]), other);
+    assert_eq!(bench.done(&["check", "Wrong.FLI", "-q"]), "");
+}
+
+#[test]
+fn refusals_of_an_fli_say_what_an_fli_is() {
+    let bench = Bench::with_fli(&full_size(3));
+    let right = bench.read("reel.fli");
+    let with = |at: usize, byte: u8| {
+        let mut bytes = right.clone();
+        bytes[at] = byte;
+        refusal_of_fli(&bench, &bytes)
+    };
+    let repair = "flic repair IN OUT makes a reel of the frames that are there";
+    let header = "reel.fli: refused";
+    assert_eq!(
+        with(14, 3),
+        format!("{header} 14 at offset 0, in the file header: its flags are 3, and those of an FLI are 0; {repair}\n")
+    );
+    assert_eq!(with(6, 0), format!("{header} 14 at offset 0, in the file header: its header says that it has 0 frames, and a reel has 1 to 4,000; {repair}\n"));
+    let size = "2 at offset 0, in the file header: it is 320 by 100, and an FLI is 320 by 200; make it anew from pictures of that size, or as an FLC";
+    assert_eq!(with(10, 100), format!("{header} {size}\n"));
+    assert!(with(4, 0x13).contains("refused 5 at offset 0, in the file header: this is neither an FLC nor an FLI"));
+    // The delay and what stands behind it are the file's own affair.
+    for at in [16, 17, 18, 127] {
+        let mut bytes = right.clone();
+        bytes[at] = 0x55;
+        bench.write("reel.fli", &bytes);
+        assert_eq!(bench.done(&["check", "reel.fli"]), "reel.fli: ok\n", "{at}");
+    }
+}
+
+#[test]
+fn what_only_an_flc_may_hold_is_found_in_an_fli() {
+    let bench = Bench::with_fli(&full_size(3));
+    let right = bench.read("reel.fli");
+    let (wrong, places) = in_form_of_flc(&right);
+    let advice = "a board that takes FLI can't draw it: flic repair IN OUT writes such frames anew as an FLI has them";
+    let expected = format!(
+        "reel.fli: refused 20 at offset {}, in frame 2 of 3: this is an FLI, and holds a chunk of kind 7 (SS2, delta), \
+         which only an FLC may hold; {advice}\n",
+        places[0]
+    );
+    assert_eq!(refusal_of_fli(&bench, &wrong), expected);
+    // A postage stamp as the only thing in frame 1 before it: its count is one more.
+    let mut stamped = right.clone();
+    stamped.splice(144..144, [7, 0, 0, 0, 18, 0, 9]);
+    (stamped[128], stamped[134]) = (stamped[128] + 7, stamped[134] + 1);
+    let line = refusal_of_fli(&bench, &sized(stamped));
+    assert!(line.starts_with("reel.fli: refused 20 at offset 144, in frame 1 of 3: "), "{line}");
+    assert!(line.contains("kind 18 (postage stamp)"), "{line}");
+}
+
+#[test]
+fn json_has_the_format() {
+    let bench = Bench::with_fli(&full_size(1));
+    let text = bench.done(&["check", "--json", "reel.fli"]);
+    let expected = r#"{"files":[{"file":"reel.fli","format":"FLI","ok":true,"refusal":null,"error":null}],"ok":1,"#;
+    assert!(text.starts_with(expected), "{text}");
 }

@@ -1,7 +1,7 @@
 //! `flic diff`.
 
 use crate::bench::Bench;
-use crate::pictures::{pictures, ppm};
+use crate::pictures::{full_size, pictures, ppm};
 use std::path::Path;
 
 /// A bench with reels of 6 by 4 pixels: `a.flc`, `b.flc` with two other pixels in frame 2, and `c.flc` with a frame more.
@@ -73,6 +73,27 @@ fn what_cannot_be_read_is_named() {
     assert!(bench.fails(1, &["diff", "a.flc", "cut.flc"]).starts_with("flic: cut.flc: refused 4 at offset 0"));
     assert!(bench.fails(1, &["diff", "no.flc", "a.flc"]).starts_with("flic: no.flc: can't be read: "));
     assert!(bench.fails(2, &["diff", "a.flc"]).starts_with("flic: B is missing\n"));
+}
+
+#[test]
+fn an_fli_and_an_flc_are_compared_by_what_they_show() {
+    let bench = Bench::with_fli(&full_size(3));
+    let build = |out: &str, speed: &str, third: &str| {
+        bench.done(&["build", out, "--speed", speed, "1.ppm", "2.ppm", third]);
+    };
+    build("same.flc", "71", "3.ppm");
+    let formats = "reel.fli: an FLI; same.flc: an FLC\n";
+    let same = format!("{formats}reel.fli and same.flc show the same: 3 frames and the ring\n");
+    assert_eq!(bench.done(&["diff", "reel.fli", "same.flc"]), same);
+    build("same.flc", "70", "3.ppm");
+    let run = bench.run(&["diff", "reel.fli", "same.flc"]);
+    let delays = "reel.fli: 5 jiffies, 71 ms a frame; same.flc: 70 ms a frame\n";
+    let same = "reel.fli and same.flc show the same pictures: 3 frames and the ring\n";
+    assert_eq!((run.status, run.out, run.err.as_str()), (1, format!("{formats}{delays}{same}"), ""));
+    build("other.flc", "71", "2.ppm");
+    let run = bench.run(&["diff", "reel.fli", "other.flc"]);
+    assert_eq!((run.status, run.err.as_str()), (1, "flic: reel.fli and other.flc: 1 of 4 pictures differ\n"));
+    assert!(run.out.starts_with("reel.fli: an FLI; other.flc: an FLC\nframe 3: "), "{}", run.out);
 }
 
 #[cfg(feature = "png")]

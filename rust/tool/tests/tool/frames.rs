@@ -1,9 +1,9 @@
 //! `flic frames`.
 
 use crate::bench::Bench;
-use crate::pictures::pictures;
+use crate::pictures::{full_size, pictures};
 use crate::reels::sized;
-use flic::{write_frame, CheckedReel};
+use flic::{write_frame, CheckedReel, Format};
 use std::fs;
 use std::os::unix::fs::PermissionsExt;
 use std::process::{Command, Stdio};
@@ -79,7 +79,7 @@ fn of_a_refused_reel_the_frames_before_the_fault_are_written() {
     damaged[chunks[2].offset + 17..chunks[2].offset + 20].fill(0);
     let mut open = right.clone();
     open[14] = 0;
-    let wrong_ring = sized([&right[..chunks[4].offset], &write_frame(&first, &first).unwrap()].concat());
+    let wrong_ring = sized([&right[..chunks[4].offset], &write_frame(Format::Flc, &first, &first).unwrap()].concat());
     let cases = [
         (right[..chunks[3].offset + 1].to_vec(), 3, "refused 4 at offset 0, in the file header: "),
         (damaged, 2, "refused 6 at offset "),
@@ -182,4 +182,22 @@ fn a_directory_without_permission_is_said_to_be_one() {
     let run = bench.run_as_nobody(&["frames", "reel.flc", "other"]);
     let expected = "flic: other: the directory can't be made: Permission denied (os error 13); check who may read and write there\n";
     assert_eq!((run.status, run.err.as_str()), (1, expected));
+}
+
+#[test]
+fn an_fli_shows_the_pictures_that_went_in_lap_after_lap() {
+    let pictures = full_size(3);
+    let bench = Bench::with_fli(&pictures);
+    let lap = [&pictures[1..], &pictures[..1]].concat();
+    assert_eq!(bench.frames("reel.fli", "3"), [&pictures[..1], &lap, &lap, &lap].concat());
+    // Of a cut one the frames before the cut.
+    let bytes = bench.read("reel.fli");
+    let second = CheckedReel::new(&bytes).unwrap().frame_chunks()[1];
+    bench.write("cut.fli", &bytes[..second.end()]);
+    let run = bench.run(&["frames", "cut.fli", "out"]);
+    assert_eq!((run.status, run.out.as_str()), (1, "cut.fli: 2 pictures in out, of the frames before the fault\n"));
+    assert_eq!(
+        (bench.read("out/lap1-0001.ppm"), bench.read("out/lap1-0002.ppm")),
+        (pictures[0].clone(), pictures[1].clone())
+    );
 }

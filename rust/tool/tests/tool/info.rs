@@ -1,7 +1,7 @@
 //! `flic info`.
 
 use crate::bench::Bench;
-use crate::pictures::pictures;
+use crate::pictures::{full_size, pictures};
 
 /// The bytes in each row of the table, the whole file's last.
 fn bytes_column(text: &str) -> Vec<usize> {
@@ -56,7 +56,7 @@ fn a_wrong_trailer_is_said_behind_the_shares() {
 fn as_json() {
     let bench = Bench::with_reel(&pictures(3));
     let text = bench.done(&["info", "--json", "reel.flc"]);
-    let start = r#"{"file":"reel.flc","ok":true,"refusal":null,"header":{"size":2719,"magic":44818,"frames":3,"width":37,"height":21,"depth":8,"flags":3,"speed":70,"created":0,"#;
+    let start = r#"{"file":"reel.flc","ok":true,"refusal":null,"header":{"format":"FLC","size":2719,"magic":44818,"frames":3,"width":37,"height":21,"depth":8,"flags":3,"jiffies":null,"speed":70,"created":0,"#;
     assert!(text.starts_with(start), "{text}");
     assert!(
         text.contains(
@@ -72,4 +72,42 @@ fn as_json() {
         run.out
     );
     assert_eq!((run.status, run.err.as_str()), (1, ""));
+}
+
+#[test]
+fn an_fli_has_its_delay_in_both_units() {
+    let bench = Bench::with_fli(&full_size(3));
+    let text = bench.done(&["info", "reel.fli"]);
+    let fields: Vec<&str> = text.lines().take_while(|line| !line.is_empty()).collect();
+    let expected = [
+        "format   FLI",
+        &format!("size     {} bytes", bench.read("reel.fli").len()),
+        "magic    AF11",
+        "frames   3 and the ring",
+        "width    320",
+        "height   200",
+        "depth    8",
+        "flags    0",
+        "delay    5 jiffies a frame",
+        "speed    71 ms a frame",
+    ];
+    assert_eq!(fields, expected);
+    assert!(text.contains("\nkind 12: LC, delta ") && !text.contains("kind 7"), "{text}");
+    let (whole, parts) = bytes_column(&text).split_last().map(|(whole, parts)| (*whole, parts.to_vec())).unwrap();
+    assert_eq!((parts.iter().sum::<usize>(), whole), (whole, bench.read("reel.fli").len()));
+    let json = bench.done(&["info", "--json", "reel.fli"]);
+    assert!(json.contains(r#""header":{"format":"FLI","size":"#), "{json}");
+    let rest = r#""flags":0,"jiffies":5,"speed":71,"created":null,"creator":null,"updated":null,"updater":null,"aspect_x":null,"aspect_y":null,"oframe1":null,"oframe2":null}"#;
+    assert!(json.contains(rest), "{json}");
+}
+
+#[test]
+fn a_refused_fli_shows_its_header() {
+    let bench = Bench::with_fli(&full_size(1));
+    let mut bytes = bench.read("reel.fli");
+    bytes[14] = 3;
+    bench.write("reel.fli", &bytes);
+    let run = bench.run(&["info", "reel.fli"]);
+    assert!(run.status == 1 && run.out.contains("\nflags    3\ndelay    5 jiffies a frame\n"), "{}", run.out);
+    assert!(run.err.starts_with("flic: reel.fli: refused 14 at offset 0, in the file header: "), "{}", run.err);
 }

@@ -1,9 +1,9 @@
 //! `flic list`.
 
 use crate::bench::Bench;
-use crate::pictures::{noise, pictures, ppm};
+use crate::pictures::{full_size, noise, pictures, ppm};
 use crate::reels::{sized, sloppy};
-use flic::{write_frame, CheckedReel};
+use flic::{write_frame, CheckedReel, Format};
 
 #[test]
 fn the_blank_reel_of_document_01() {
@@ -79,7 +79,7 @@ fn what_the_check_refuses_is_listed_as_far_as_it_goes_and_not_ok() {
     let before_ring: String =
         listed.lines().take_while(|line| !line.ends_with(" ring")).map(|line| format!("{line}\n")).collect();
 
-    let wrong_ring = sized([&right[..ring], &write_frame(&first, &first).unwrap()].concat());
+    let wrong_ring = sized([&right[..ring], &write_frame(Format::Flc, &first, &first).unwrap()].concat());
     let (out, err) = refused(&wrong_ring);
     assert_eq!(out, format!("{before_ring}0 {ring} 61946 16 ring\nrefused 16 {ring}\n"));
     assert!(err.starts_with(&format!("flic: reel.flc: refused 16 at offset {ring}, in the ring: ")), "{err}");
@@ -101,12 +101,36 @@ fn what_the_check_refuses_is_listed_as_far_as_it_goes_and_not_ok() {
 #[test]
 fn as_json() {
     let bench = Bench::with_reel(&[ppm(1, 1, |_, _| [0; 3])]);
-    let expected = r#"{"file":"reel.flc","ok":true,"refusal":null,"width":1,"height":1,"frames":1,"chunks":[{"depth":0,"offset":128,"kind":61946,"size":16,"name":"frame 1"},{"depth":0,"offset":144,"kind":61946,"size":16,"name":"ring"}]}"#;
+    let expected = r#"{"file":"reel.flc","format":"FLC","ok":true,"refusal":null,"width":1,"height":1,"frames":1,"chunks":[{"depth":0,"offset":128,"kind":61946,"size":16,"name":"frame 1"},{"depth":0,"offset":144,"kind":61946,"size":16,"name":"ring"}]}"#;
     assert_eq!(bench.done(&["list", "reel.flc", "--json"]).trim_end(), expected);
     let bytes = bench.read("reel.flc");
     bench.write("reel.flc", &bytes[..100]);
     let run = bench.run(&["list", "reel.flc", "--json"]);
-    assert!(run.out.starts_with(r#"{"file":"reel.flc","ok":false,"refusal":{"number":4,"name":"Cut","#), "{}", run.out);
+    assert!(
+        run.out.starts_with(r#"{"file":"reel.flc","format":"FLC","ok":false,"refusal":{"number":4,"name":"Cut","#),
+        "{}",
+        run.out
+    );
     assert!(run.out.ends_with("\"width\":null,\"height\":null,\"frames\":null,\"chunks\":[]}\n"), "{}", run.out);
     assert_eq!((run.status, run.err.as_str()), (1, ""));
+}
+
+#[test]
+fn only_an_flc_is_listed() {
+    let bench = Bench::with_fli(&full_size(2));
+    let right = bench.read("reel.fli");
+    let said =
+        "flic: reel.fli: refused 5 at offset 0, in the file header: this is an FLI, and listings and trailers are of \
+                FLC files only; flic info FILE says what it holds, and flic convert FILE OUT.flc makes an FLC of it\n";
+    let mut damaged = right.clone();
+    damaged[128] ^= 1;
+    for bytes in [&right, &damaged] {
+        bench.write("reel.fli", bytes);
+        let run = bench.run(&["list", "reel.fli"]);
+        assert_eq!((run.status, run.out.as_str(), run.err.as_str()), (1, "refused 5 0\n", said));
+    }
+    let run = bench.run(&["list", "reel.fli", "--json"]);
+    let start = r#"{"file":"reel.fli","format":"FLI","ok":false,"refusal":{"number":5,"name":"WrongType","#;
+    assert!(run.status == 1 && run.out.starts_with(start), "{}", run.out);
+    assert!(run.out.ends_with("\"frames\":null,\"chunks\":[]}\n"), "{}", run.out);
 }

@@ -1,15 +1,14 @@
 //! `flic page`; tests/browser looks at what it shows.
 
-use crate::bench::Bench;
-use crate::pictures::pictures;
+use crate::bench::{grouped, Bench};
+use crate::pictures::{full_size, pictures};
 
 #[test]
 fn a_page_is_one_file_that_fetches_nothing() {
     let bench = Bench::with_reel(&pictures(3));
     let said = bench.done(&["page", "reel.flc", "page.html"]);
     let page = String::from_utf8(bench.read("page.html")).unwrap();
-    let (thousands, rest) = (page.len() / 1_000, page.len() % 1_000);
-    assert_eq!(said, format!("page.html: 3 frames and the ring, {thousands},{rest:03} bytes\n"));
+    assert_eq!(said, format!("page.html: 3 frames and the ring, {} bytes\n", grouped(page.len())));
     assert!(page.starts_with("<!DOCTYPE html>\n") && page.ends_with("</html>\n"));
     assert!(page.contains("<title>reel.flc</title>") && page.contains("reel.flc: 3 frames and the ring, 70 ms each"));
     assert!(!page.contains("{{"), "every part is filled in");
@@ -42,4 +41,17 @@ fn only_a_page_is_replaced_without_being_asked() {
     bench.done(&["page", "reel.flc", "mine.html"]);
     bench.write("wrong.flc", b"not a reel");
     assert!(bench.fails(1, &["page", "wrong.flc", "new.html"]).starts_with("flic: wrong.flc: refused 4 at offset 0"));
+}
+
+#[test]
+fn a_page_of_an_fli_plays_as_that_of_the_same_flc() {
+    let bench = Bench::with_fli(&full_size(3));
+    bench.done(&["convert", "reel.fli", "reel.flc"]);
+    let page = |name: &str| {
+        bench.done(&["page", name, "page.html"]);
+        String::from_utf8(bench.read("page.html")).unwrap()
+    };
+    let of_fli = page("reel.fli");
+    assert!(of_fli.contains("reel.fli: 3 frames and the ring, 71 ms each"));
+    assert_eq!(of_fli.replace("reel.fli", "reel.flc"), page("reel.flc"));
 }

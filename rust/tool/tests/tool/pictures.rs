@@ -25,3 +25,14 @@ pub fn pictures(count: usize) -> Vec<Vec<u8>> {
 pub fn noise(number: usize) -> Vec<u8> {
     ppm(320, 200, |x, y| [((x * x + y * number * 31) * (x + y * y + number) % 251) as u8; 3])
 }
+
+/// Pictures of 320 by 200 pixels, as an FLI has them: a block that moves, a line that changes, and a colour that fades.
+pub fn full_size(count: usize) -> Vec<Vec<u8>> {
+    let colour = |number: usize, x: usize, y: usize| match (x / 8, y / 8) {
+        (column, 3..6) if column == 4 + 3 * number => [255, 216, 64],
+        (_, 20) if (x + number * x / 7) % 5 == 0 => [240, 240, 224],
+        (30.., 10..) => [(40 * number) as u8, 40, 32],
+        _ => [16, 40, 32],
+    };
+    (0..count).map(|number| ppm(320, 200, |x, y| colour(number, x, y))).collect()
+}

@@ -1,6 +1,6 @@
 //! Reels as other tools write them.
 
-use flic::{CheckedReel, State};
+use flic::{write_frame, CheckedReel, Format, State};
 
 const FRAME: u16 = 0xF1FA;
 
@@ -42,4 +42,22 @@ pub fn sized(mut bytes: Vec<u8>) -> Vec<u8> {
     let size = bytes.len() as u32;
     bytes[..4].copy_from_slice(&size.to_le_bytes());
     bytes
+}
+
+/// The same FLI with every frame from the second on as an FLC has it, and where its chunks of kind 7 stand.
+pub fn in_form_of_flc(fli: &[u8]) -> (Vec<u8>, Vec<usize>) {
+    let states: Vec<State> = CheckedReel::new(fli).unwrap().frames().map(|frame| frame.state).collect();
+    let mut bytes =
+        [&fli[..128], &write_frame(Format::Fli, &State::blank(states[0].size()), &states[0]).unwrap()].concat();
+    let mut places = Vec::new();
+    for pair in states.windows(2) {
+        let frame = write_frame(Format::Flc, &pair[0], &pair[1]).unwrap();
+        let mut at = 16;
+        while frame[at + 4] != 7 {
+            at += u32::from_le_bytes(frame[at..at + 4].try_into().unwrap()) as usize;
+        }
+        places.push(bytes.len() + at);
+        bytes.extend(frame);
+    }
+    (sized(bytes), places)
 }

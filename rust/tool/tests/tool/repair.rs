@@ -1,9 +1,9 @@
 //! `flic repair`.
 
-use crate::bench::Bench;
-use crate::pictures::{pictures, ppm};
-use crate::reels::{chunk, frame_of, lengthened, sized, sloppy};
-use flic::{write_frame, CheckedReel, Chunk};
+use crate::bench::{grouped, Bench};
+use crate::pictures::{full_size, pictures, ppm};
+use crate::reels::{chunk, frame_of, in_form_of_flc, lengthened, sized, sloppy};
+use flic::{write_frame, CheckedReel, Chunk, Format};
 use std::os::unix::fs::symlink;
 
 /// A bench with `reel.flc` of so many frames, its bytes, and where its frames and its ring lie.
@@ -16,10 +16,14 @@ fn reel(count: usize) -> (Bench, Vec<u8>, Vec<Chunk>) {
 
 /// What a repair says of these bytes, as `in.flc`; what it leaves is right, and `in.flc` is as it was.
 fn repaired(bench: &Bench, bytes: &[u8], options: &[&str]) -> String {
-    bench.write("in.flc", bytes);
-    let said = bench.done(&[&["repair", "in.flc", "out.flc", "--force"], options].concat());
-    assert_eq!(bench.done(&["check", "out.flc"]), "out.flc: ok\n");
-    assert_eq!(bench.read("in.flc"), bytes);
+    repaired_as(bench, ["in.flc", "out.flc"], bytes, options)
+}
+
+fn repaired_as(bench: &Bench, [file, out]: [&str; 2], bytes: &[u8], options: &[&str]) -> String {
+    bench.write(file, bytes);
+    let said = bench.done(&[&["repair", file, out, "--force"], options].concat());
+    assert_eq!(bench.done(&["check", out]), format!("{out}: ok\n"));
+    assert_eq!(bench.read(file), bytes);
     said
 }
 
@@ -36,7 +40,7 @@ fn whole_frames(bytes: &[u8]) -> (Vec<u8>, Vec<Chunk>) {
 fn a_wrong_ring_is_made_anew() {
     let (bench, right, chunks) = reel(3);
     let first = CheckedReel::new(&right).unwrap().frames().next().unwrap().state;
-    let wrong = sized([&right[..chunks[3].offset], &write_frame(&first, &first).unwrap()].concat());
+    let wrong = sized([&right[..chunks[3].offset], &write_frame(Format::Flc, &first, &first).unwrap()].concat());
     bench.write("in.flc", &wrong);
     let check = bench.run(&["check", "in.flc"]).out;
     assert!(check.ends_with(": flic repair IN OUT makes the ring anew\n"), "{check}");
@@ -295,7 +299,7 @@ fn never_in_place() {
     bench.write("other.flc", &right[..1_400]);
     let err = bench.fails(1, &["repair", "in.flc", "other.flc"]);
     assert!(
-        err.starts_with("flic: other.flc: is there already, a FLC file of 1,400 bytes that a check refuses, "),
+        err.starts_with("flic: other.flc: is there already, an FLC file of 1,400 bytes that a check refuses, "),
         "{err}"
     );
     assert_eq!(bench.read("other.flc"), right[..1_400]);
@@ -308,7 +312,7 @@ fn what_is_no_reel_of_a_board_is_not_repaired() {
     let error = |name: &str| bench.fails(1, &["repair", name, "out.flc"]);
     assert!(error("large.ppm").contains("this is a PPM picture; make a reel from pictures with flic build"));
     for (at, number, found) in
-        [(12, 14, "its depth is 9, "), (9, 2, "it is 2341 by 21, "), (4, 5, "its magic is AF09, not AF12")]
+        [(12, 14, "its depth is 9, "), (9, 2, "it is 2341 by 21, "), (4, 5, "its magic is AF09, not AF12 or AF11")]
     {
         let mut wrong = right.clone();
         wrong[at] = 9;
@@ -337,5 +341,205 @@ fn whatever_is_bent_gives_a_right_reel_or_none() {
             other => panic!("{at}: {other}: {}", run.err),
         }
         assert_eq!(bench.read("in.flc"), bent);
+    }
+}
+
+/// The bytes with the size field at this offset set.
+fn with_size(bytes: &[u8], at: usize, size: u32) -> Vec<u8> {
+    let mut bytes = bytes.to_vec();
+    bytes[at..at + 4].copy_from_slice(&size.to_le_bytes());
+    bytes
+}
+
+/// What is said of the chunk at which no frame could be read.
+fn skipped(chunk: Chunk) -> String {
+    format!("\n  {} bytes skipped from offset {} on, up to the next frame\n", grouped(chunk.size), chunk.offset)
+}
+
+#[test]
+fn frames_behind_a_damaged_header_are_found() {
+    let (bench, right, _) = reel(5);
+    let (whole, chunks) = whole_frames(&right);
+    let pictures = pictures(5);
+    let kept = [0, 2, 3, 4, 0].map(|at| pictures[at].clone());
+    let at = chunks[1].offset;
+    for (size, number) in [(u32::MAX, 4), (1 << 20, 4), (15, 6), (0, 6)] {
+        let said = repaired(&bench, &with_size(&whole, at, size), &[]);
+        let dropped = format!("\n  frame 2 can't be read and is dropped: refused {number} at offset {at}, ");
+        assert!(said.contains(&dropped) && said.contains(&skipped(chunks[1])), "{size}: {said}");
+        assert!(!said.contains("gone") && !said.contains("lost"), "{said}");
+        assert_eq!(bench.frames("out.flc", "1"), kept, "{size}");
+    }
+    // A size that ends within the frame.
+    let said = repaired(&bench, &with_size(&whole, at, 30), &[]);
+    assert!(said.contains("\n  frame 2 can't be read and is dropped: ") && said.contains(" skipped from "), "{said}");
+    assert_eq!(bench.frames("out.flc", "1"), kept);
+    // Where frames are drawn on each other, those behind it are named.
+    let (bench, right, chunks) = reel(5);
+    let damaged = with_size(&right, chunks[1].offset, u32::MAX);
+    let said = repaired(&bench, &damaged, &[]);
+    assert!(said.contains("\n  frames 3 to 5 are kept, but made to be drawn on a picture that is gone: "), "{said}");
+    let said = repaired(&bench, &damaged, &["--sure"]);
+    assert!(said.contains("\n  frames 3 to 5 are dropped too, ") && said.contains("\nout.flc: 1 frame "), "{said}");
+    // The same where the type is damaged too: the header speaks of one frame more than is found.
+    let mut typeless = damaged.clone();
+    typeless[chunks[1].offset + 4..chunks[1].offset + 6].fill(0);
+    let said = repaired(&bench, &typeless, &[]);
+    assert!(said.contains("\n  frame 2 can't be read ") && said.contains("\n  frames 3 to 5 are kept, but"), "{said}");
+    // They are listed too, and not written as if nothing lay before them.
+    bench.write("in.flc", &damaged);
+    let listed = bench.run(&["list", "in.flc"]).out;
+    assert!(listed.contains(&format!("\n0 {} 61946 {} frame 3\n", chunks[2].offset, chunks[2].size)), "{listed}");
+    assert!(!listed.contains("frame 2") && listed.contains(" ring\n"), "{listed}");
+    let run = bench.run(&["frames", "in.flc", "pictures"]);
+    assert_eq!(run.out, "in.flc: 1 picture in pictures, of the frames before the fault\n");
+}
+
+#[test]
+fn bytes_that_are_no_chunk_are_skipped() {
+    let (bench, right, chunks) = reel(3);
+    let between = [&right[..chunks[1].offset], &[0xFA; 100], &right[chunks[1].offset..]].concat();
+    let said = repaired(&bench, &sized(between), &[]);
+    let skipped = skipped(Chunk { offset: chunks[1].offset, size: 100 });
+    assert!(said.contains(&skipped) && !said.contains("dropped"), "{said}");
+    assert_eq!(bench.read("out.flc"), right);
+    // A chunk outside frames, whose size is wrong, and a frame whose header is, in one reel.
+    let (whole, _) = whole_frames(&right);
+    let prefix = chunk(0xF100, b"settings");
+    let both = sized([&whole[..128], &prefix, &whole[128..]].concat());
+    let frames = CheckedReel::new(&both).unwrap().frame_chunks().to_vec();
+    let said = repaired(&bench, &with_size(&with_size(&both, 128, 1 << 30), frames[1].offset, 3), &[]);
+    assert!(
+        said.contains("\n  14 bytes skipped from offset 128 on, ") && said.contains("\n  frame 2 can't be read "),
+        "{said}"
+    );
+    let pictures = pictures(3);
+    assert_eq!(bench.frames("out.flc", "1"), [0, 2, 0].map(|at| pictures[at].clone()));
+}
+
+#[test]
+fn nothing_is_looked_for_behind_the_ring() {
+    let (bench, right, chunks) = reel(2);
+    let mut more = sized([&right[..], &[9; 20], &right[chunks[0].offset..chunks[0].end()]].concat());
+    more[14] = 0;
+    let said = repaired(&bench, &more, &[]);
+    assert!(!said.contains("skipped") && said.contains(" after the ring\n"), "{said}");
+    assert_eq!(bench.read("out.flc"), right);
+}
+
+#[test]
+fn pixels_that_look_like_a_frame_are_none() {
+    let (bench, right, _) = reel(2);
+    let (whole, chunks) = whole_frames(&right);
+    let mut damaged = with_size(&whole, chunks[1].offset, u32::MAX);
+    // In a COPY stands what could be a frame, but for what it holds: a COPY of four pixels.
+    let header = [26, 0, 0, 0, 0xFA, 0xF1, 1, 0, 0, 0, 0, 0, 0, 0, 0, 0];
+    let pixels = chunks[1].end() - 100;
+    damaged[pixels..pixels + 26].copy_from_slice(&[&header[..], &chunk(16, &[1; 4])].concat());
+    let said = repaired(&bench, &damaged, &[]);
+    assert!(said.contains(&skipped(chunks[1])) && said.contains("\nout.flc: 1 frame and the ring, "), "{said}");
+}
+
+/// A bench with `reel.fli` of so many frames, its bytes, and where its frames and its ring lie.
+fn fli(count: usize) -> (Bench, Vec<u8>, Vec<Chunk>) {
+    let bench = Bench::with_fli(&full_size(count));
+    let bytes = bench.read("reel.fli");
+    let chunks = CheckedReel::new(&bytes).unwrap().frame_chunks().to_vec();
+    (bench, bytes, chunks)
+}
+
+const FLI: [&str; 2] = ["in.fli", "out.fli"];
+
+#[test]
+fn an_fli_stays_an_fli() {
+    let (bench, right, chunks) = fli(3);
+    let first = CheckedReel::new(&right).unwrap().frames().next().unwrap().state;
+    let ring = write_frame(Format::Fli, &first, &first).unwrap();
+    let mut never_closed = right[..chunks[3].offset].to_vec();
+    never_closed[..4].fill(0);
+    never_closed[6..8].fill(0);
+    let with = |at: usize, byte: u8| {
+        let mut bytes = right.clone();
+        bytes[at] = byte;
+        bytes
+    };
+    let cases = [
+        (sized([&right[..chunks[3].offset], &ring].concat()), "refused 16 at offset "),
+        (right[..chunks[3].offset + 5].to_vec(), "refused 4 at offset 0, in the file header: "),
+        (never_closed, "refused 6 at offset 0, in the file header: its header says that it has 0 bytes, "),
+        (with(14, 3), "refused 14 at offset 0, in the file header: its flags are 3, and those of an FLI are 0\n"),
+        (with(6, 200), "refused 15 at offset "),
+        (with(6, 0), "refused 14 at offset 0, in the file header: its header says that it has 0 frames, "),
+    ];
+    for (bytes, fault) in cases {
+        let said = repaired_as(&bench, FLI, &bytes, &[]);
+        assert!(said.starts_with(&format!("in.fli: {fault}")), "{said}");
+        assert!(said.contains("\nout.fli: 3 frames and the ring, "), "{said}");
+        assert!(bench.read("out.fli") == right, "{fault}");
+    }
+    // Whatever its flags, where it ends is said by its size.
+    let said = repaired_as(&bench, FLI, &[&with(14, 3)[..], &[7; 50]].concat(), &[]);
+    assert!(said.contains("\n  not kept: 50 bytes behind the reel that aren't its trailer\n"), "{said}");
+    let err = bench.fails(1, &["repair", "in.fli", "out.flc"]);
+    let expected =
+        "flic: out.flc: is a name for an FLC, and in.fli is an FLI: give one that ends in .fli, or make an FLC of \
+                    it with flic convert\n";
+    assert_eq!(err, expected);
+}
+
+#[test]
+fn what_only_an_flc_may_hold_is_written_as_an_fli_has_it() {
+    let (bench, right, _) = fli(4);
+    let (wrong, places) = in_form_of_flc(&right);
+    let said = repaired_as(&bench, FLI, &wrong, &["--sure"]);
+    let fault = format!(
+        "in.fli: refused 20 at offset {}, in frame 2 of 4: this is an FLI, and holds a chunk of kind 7 ",
+        places[0]
+    );
+    assert!(said.starts_with(&fault), "{said}");
+    let note = "\n  kind 7 or 18, which only an FLC may hold, in frames 2 to 4: drawn as in one, and written anew\n";
+    assert!(said.contains(note) && !said.contains("dropped"), "{said}");
+    assert!(bench.read("out.fli") == right);
+    // A postage stamp is no part of a picture; spare bytes go too.
+    let mut stamped = right.clone();
+    stamped.splice(144..144, chunk(18, &[9; 40]));
+    stamped[134] += 1;
+    let stamped = sized(lengthened(&stamped, 128, 46));
+    let said = repaired_as(&bench, FLI, &stamped, &[]);
+    assert!(said.contains(", in frame 1: drawn as in one, and written anew\n"), "{said}");
+    assert!(said.contains("\n  not kept: 1 chunk of kind 18 (postage stamp) in frames\n"), "{said}");
+    assert!(bench.read("out.fli") == right);
+    // What can't be read as an FLC's either is dropped.
+    let mut damaged = wrong.clone();
+    damaged[places[1] + 6..places[1] + 10].copy_from_slice(&[9, 0, 0, 0x40]);
+    let said = repaired_as(&bench, FLI, &damaged, &["--sure"]);
+    let dropped = format!("\n  frame 3 can't be read and is dropped: refused 11 at offset {}, ", places[1]);
+    assert!(said.contains(&dropped) && said.contains(", in frames 2, 4: drawn"), "{said}");
+}
+
+#[test]
+fn other_chunks_of_an_fli_are_kept_and_its_header_stays_empty() {
+    let (bench, right, chunks) = fli(2);
+    let wrong = [&right[..128], &chunk(77, b"more"), &right[128..chunks[2].offset]].concat();
+    repaired_as(&bench, FLI, &wrong, &["--keep-others"]);
+    let expected = sized([&right[..128], &chunk(77, b"more"), &right[128..]].concat());
+    assert!(bench.read("out.fli") == expected);
+    assert_eq!(bench.read("out.fli")[18..128], [0; 110]);
+}
+
+#[test]
+fn whatever_is_bent_in_an_fli_gives_a_right_one_or_none() {
+    let (bench, right, chunks) = fli(2);
+    let headers = chunks.iter().flat_map(|chunk| chunk.offset..chunk.offset + 26);
+    for at in (0..20).chain(headers) {
+        let mut bent = right.clone();
+        bent[at] ^= 0x55;
+        bench.write("in.fli", &bent);
+        let run = bench.run(&["repair", "in.fli", "out.fli", "--force"]);
+        match run.status {
+            0 => assert_eq!(bench.done(&["check", "out.fli"]), "out.fli: ok\n", "{at}"),
+            1 => assert!(run.err.starts_with("flic: in.fli: refused "), "{at}: {}", run.err),
+            other => panic!("{at}: {other}: {}", run.err),
+        }
     }
 }

@@ -1,7 +1,7 @@
 //! `flic replay`.
 
 use crate::bench::{Bench, Run};
-use crate::pictures::pictures;
+use crate::pictures::{full_size, pictures};
 
 /// What a replay of a reel of three frames, 70 milliseconds each, says of these lines.
 fn replayed(input: &str) -> Run {
@@ -62,4 +62,11 @@ fn a_refused_reel_has_no_player() {
     let run = bench.run_with(&["replay", "reel.flc"], b"0\n70\n");
     assert_eq!((run.status, run.out.as_str()), (1, ""));
     assert!(run.err.starts_with("flic: reel.flc: refused 4 at offset 0, in the file header: "), "{}", run.err);
+}
+
+#[test]
+fn an_fli_is_replayed_in_milliseconds() {
+    // 5 jiffies are 71 milliseconds.
+    let run = Bench::with_fli(&full_size(2)).run_with(&["replay", "reel.fli"], b"1000\n1070\n1071\n1141\n1142\n1213\n");
+    assert_eq!((run.status, run.out.as_str(), run.err.as_str()), (0, "1\n2\n2\n3\n2\n", ""));
 }

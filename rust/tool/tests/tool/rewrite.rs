@@ -1,7 +1,7 @@
 //! `flic rewrite`.
 
 use crate::bench::Bench;
-use crate::pictures::pictures;
+use crate::pictures::{full_size, pictures};
 use crate::reels::sloppy;
 use std::fs;
 use std::os::unix::fs::{chown, MetadataExt, PermissionsExt};
@@ -59,7 +59,7 @@ fn a_refused_reel_leaves_nothing() {
     bench.fails(1, &["rewrite", "reel.flc", "no/house.flc"]);
     assert_eq!(bench.read("reel.flc"), built);
     let err = bench.fails(1, &["rewrite", "reel.flc", "1.ppm"]);
-    assert!(err.starts_with("flic: 1.ppm: is there already and isn't a FLC file"), "{err}");
+    assert!(err.starts_with("flic: 1.ppm: is there already and isn't an FLC or FLI file"), "{err}");
 }
 
 #[test]
@@ -109,4 +109,28 @@ fn a_file_whose_owner_cannot_be_kept_stays_as_it_is() {
     assert_eq!((run.status, run.err.as_str()), (1, expected));
     let after = fs::metadata(&reel).unwrap();
     assert_eq!((after.ino(), after.uid(), bench.names(".").len()), (before.ino(), 1234, 3));
+}
+
+#[test]
+fn an_fli_stays_an_fli() {
+    let bench = Bench::with_fli(&full_size(3));
+    let built = bench.read("reel.fli");
+    let mut sloppy = sloppy(&built);
+    sloppy[99] = 7;
+    bench.write("sloppy.fli", &[&sloppy[..], &[5; 30]].concat());
+    let said = bench.done(&["rewrite", "sloppy.fli", "house.fli"]);
+    let lost = "4 chunks of kind 99 (unknown) in frames, 1 chunk of kind 61696 (prefix) outside frames, 20 bytes after the \
+                ring, 30 bytes behind the reel that aren't its trailer, bytes 18 to 127 of the header, which no one reads";
+    assert!(said.starts_with(&format!("sloppy.fli: not kept: {lost}\nhouse.fli: ")), "{said}");
+    assert_eq!(bench.read("house.fli"), built);
+    bench.done(&["rewrite", "house.fli", "house.fli"]);
+    assert_eq!(bench.read("house.fli"), built);
+    let err = bench.fails(1, &["rewrite", "reel.fli", "new.flc"]);
+    let expected =
+        "flic: new.flc: is a name for an FLC, and reel.fli is an FLI: give one that ends in .fli, or make an FLC \
+                    of it with flic convert\n";
+    assert_eq!(err, expected);
+    // A name that stands for nothing will do.
+    bench.done(&["rewrite", "reel.fli", "reel"]);
+    assert_eq!(bench.read("reel"), built);
 }

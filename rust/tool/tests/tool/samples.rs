@@ -19,13 +19,16 @@ fn sample(name: &str) -> PathBuf {
 }
 
 fn built(canvases: &[Canvas], options: &[&str]) -> Vec<u8> {
+    built_as("reel.flc", canvases, options)
+}
+
+fn built_as(reel: &str, canvases: &[Canvas], options: &[&str]) -> Vec<u8> {
     let pictures: Vec<Vec<u8>> = canvases.iter().map(Canvas::ppm).collect();
     let bench = Bench::with_pictures(&pictures);
     let names: Vec<String> = (1..=pictures.len()).map(|number| format!("{number}.ppm")).collect();
-    let words =
-        ["build", "reel.flc"].into_iter().chain(options.iter().copied()).chain(names.iter().map(String::as_str));
+    let words = ["build", reel].into_iter().chain(options.iter().copied()).chain(names.iter().map(String::as_str));
     bench.done(&words.collect::<Vec<&str>>());
-    bench.read("reel.flc")
+    bench.read(reel)
 }
 
 #[test]
@@ -36,6 +39,8 @@ fn samples_are_what_the_tool_makes() {
     assert!(fs::read(sample("fade.flc")).unwrap() == fade, "run samples/make");
     let board = built(&board::board(), &["--speed", "250"]);
     assert!(fs::read(sample("board.flc")).unwrap() == board, "run samples/make");
+    let board = built_as("reel.fli", &board::board(), &["--speed", "250"]);
+    assert!(fs::read(sample("board.fli")).unwrap() == board, "run samples/make");
 }
 
 #[test]
@@ -47,9 +52,9 @@ fn the_wrong_ring_is_found() {
     assert!(run.out.contains("refused 16 at offset ") && run.out.contains(", in the ring: "), "{}", run.out);
 }
 
-/// The board, a sub-chunk a line: the frame's number from 1 on, and the kind.
-fn kinds() -> Vec<(usize, u16)> {
-    let bytes = fs::read(sample("board.flc")).unwrap();
+/// A board, a sub-chunk a line: the frame's number from 1 on, and the kind.
+fn kinds(name: &str) -> Vec<(usize, u16)> {
+    let bytes = fs::read(sample(name)).unwrap();
     let word = |at: usize| u16::from_le_bytes([bytes[at], bytes[at + 1]]);
     let long = |at: usize| usize::from(word(at)) + (usize::from(word(at + 2)) << 16);
     let reel = flic::CheckedReel::new(&bytes).unwrap();
@@ -77,10 +82,13 @@ fn the_board_makes_day_of_night_by_colours() {
     assert!(sum(0) < 60 && sum(12) > 300, "{} {}", sum(0), sum(12));
     assert!(states.iter().all(|state| state.picture.pixels()[at] == states[0].picture.pixels()[at]));
     // After frame 1 no frame has a whole picture, and those at dawn and dusk have colours too.
-    let full =
-        kinds().iter().filter(|(_, kind)| [13, 15, 16].contains(kind)).map(|(number, _)| *number).collect::<Vec<_>>();
+    let full = kinds("board.flc")
+        .iter()
+        .filter(|(_, kind)| [13, 15, 16].contains(kind))
+        .map(|(number, _)| *number)
+        .collect::<Vec<_>>();
     assert_eq!(full, [1]);
-    let coloured = kinds().iter().filter(|(_, kind)| *kind == 4).count();
+    let coloured = kinds("board.flc").iter().filter(|(_, kind)| *kind == 4).count();
     assert!((12..=20).contains(&coloured), "{coloured}");
 }
 
@@ -91,4 +99,17 @@ fn the_board_has_levels_that_the_old_boards_have() {
         let is_one_of_64 = |level: &u8| *level == (*level & !3) | *level >> 6;
         assert!(ppm[15..].iter().all(is_one_of_64));
     }
+}
+
+#[test]
+fn the_board_of_an_fli_shows_the_same_by_other_deltas() {
+    let states = |name: &str| -> Vec<flic::State> {
+        let bytes = fs::read(sample(name)).unwrap();
+        flic::CheckedReel::new(&bytes).unwrap().frames().map(|frame| frame.state).collect()
+    };
+    assert!(states("board.flc") == states("board.fli"));
+    let other = |kind: u16| if kind == 7 { 12 } else { kind };
+    let expected: Vec<(usize, u16)> =
+        kinds("board.flc").into_iter().map(|(number, kind)| (number, other(kind))).collect();
+    assert_eq!(kinds("board.fli"), expected);
 }

@@ -1,7 +1,7 @@
 //! `flic sheet`.
 
 use crate::bench::Bench;
-use crate::pictures::{pictures, ppm};
+use crate::pictures::{full_size, pictures, ppm};
 
 /// The sheet's width and height, and red, green and blue of every pixel, read back by building a reel from it.
 fn read(bench: &Bench, name: &str) -> (usize, usize, Vec<[u8; 3]>) {
@@ -71,4 +71,13 @@ fn only_a_sheet_is_replaced_without_being_asked() {
     assert!(bench.run(&["sheet", "reel.flc", "out/lap1-0001.png"]).err.contains("is there already"));
     assert!(bench.fails(1, &["sheet", "reel.flc", "out"]).contains("is a directory"));
     assert!(bench.fails(1, &["sheet", "1.ppm", "new.png"]).starts_with("flic: 1.ppm: refused 5 at offset 0"));
+}
+
+#[test]
+fn a_sheet_of_an_fli_is_that_of_the_same_flc() {
+    let bench = Bench::with_fli(&full_size(3));
+    bench.done(&["convert", "reel.fli", "reel.flc"]);
+    bench.done(&["sheet", "reel.fli", "fli.png"]);
+    bench.done(&["sheet", "reel.flc", "flc.png"]);
+    assert_eq!(bench.read("fli.png"), bench.read("flc.png"));
 }

@@ -1,7 +1,7 @@
 //! `flic tiles`, and what `flic info` says of tiles.
 
 use crate::bench::Bench;
-use crate::pictures::{pictures, ppm};
+use crate::pictures::{full_size, pictures, ppm};
 
 /// Pictures of 33 by 9 pixels: 5 by 2 tiles, one pixel of which is white.
 fn moving(pixels: &[(usize, usize)]) -> Vec<Vec<u8>> {
@@ -43,4 +43,13 @@ fn a_refused_reel_has_no_tiles() {
     let run = bench.run(&["tiles", "reel.flc"]);
     assert_eq!((run.status, run.out.as_str()), (1, ""));
     assert!(run.err.starts_with("flic: reel.flc: refused 4 at offset 0, in the file header: "), "{}", run.err);
+}
+
+#[test]
+fn an_fli_redraws_what_the_same_flc_redraws() {
+    let bench = Bench::with_fli(&full_size(3));
+    bench.done(&["convert", "reel.fli", "reel.flc"]);
+    let text = bench.done(&["tiles", "reel.fli", "--map"]);
+    assert_eq!(text, bench.done(&["tiles", "reel.flc", "--map"]));
+    assert!(text.contains("frame 2: ") && text.contains(" of 1000 tiles, rows "), "{text}");
 }

@@ -1,7 +1,7 @@
 //! `flic trailer`.
 
 use crate::bench::Bench;
-use crate::pictures::{pictures, ppm};
+use crate::pictures::{full_size, pictures, ppm};
 
 #[test]
 fn written_and_then_right() {
@@ -57,4 +57,17 @@ fn other_tasks_are_wrong_usage() {
     let bench = Bench::with_reel(&pictures(1));
     assert!(bench.fails(2, &["trailer", "remove", "reel.flc"]).starts_with("flic: remove isn't check or write\n"));
     assert!(bench.fails(2, &["trailer", "check"]).starts_with("flic: FILE is missing\n"));
+}
+
+#[test]
+fn an_fli_has_none() {
+    let bench = Bench::with_fli(&full_size(1));
+    let before = bench.read("reel.fli");
+    for task in ["check", "write"] {
+        let err = bench.fails(1, &["trailer", task, "reel.fli"]);
+        let expected = "flic: reel.fli: refused 5 at offset 0, in the file header: this is an FLI, and listings and \
+                        trailers are of FLC files only; ";
+        assert!(err.starts_with(expected) && err.contains("flic convert FILE OUT.flc"), "{err}");
+    }
+    assert_eq!(bench.read("reel.fli"), before);
 }

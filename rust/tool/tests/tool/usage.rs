@@ -4,9 +4,9 @@ use crate::bench::{Bench, Run};
 use crate::pictures::pictures;
 use std::fs::OpenOptions;
 
-const COMMANDS: [&str; 15] = [
+const COMMANDS: [&str; 16] = [
     "check", "info", "list", "play", "replay", "frames", "tiles", "sheet", "page", "diff", "build", "repair",
-    "rewrite", "trailer", "manual",
+    "rewrite", "convert", "trailer", "manual",
 ];
 
 #[test]
