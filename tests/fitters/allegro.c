@@ -1,20 +1,22 @@
 /* Plays a file with Allegro's FLI player, so many frames in its own loop, and writes each: a byte (1 shown, 0 none
- * came), the pixels, the palette of levels 0 to 63. */
+ * came), the pixels, the palette of levels 0 to 63. Prints for how long a frame shows, in counts of its timer. */
 #include <errno.h>
 #include <stdio.h>
 #include <stdlib.h>
 
 #include <allegro.h>
 
+static long delay;
+
 /* Opening a file wants a timer, which nobody waits for here, and Allegro without a display has none. */
-static int start_nothing(void (*tick)(void), long speed)
+static int keep_delay(void (*tick)(void), long speed)
 {
     (void)tick;
-    (void)speed;
+    delay = speed;
     return 0;
 }
 
-static TIMER_DRIVER no_timer = {.install_int = start_nothing};
+static TIMER_DRIVER no_timer = {.install_int = keep_delay};
 
 static void write_frame(FILE *out, int shown)
 {
@@ -42,6 +44,7 @@ int main(int count, char **words)
     }
     for (int left = atoi(words[2]); left > 0; left--)
         write_frame(out, next_fli_frame(TRUE) == FLI_OK);
+    printf("%ld\n", delay);
     return fclose(out) == 0 ? 0 : 2;
 }
 END_OF_MAIN()

@@ -1,13 +1,29 @@
 """Reads and plays as Allegro does; every `touch` is a rule under its condition."""
 from document import signed
 from outside import Outside, Shown
-from reel import CHUNK_HEADER, FRAME, FRAME_HEADER, PREFIX, kind, word
+from reel import CHUNK_HEADER, FLI, FRAME, FRAME_HEADER, PREFIX, kind, word
 
 SKIPPED_AS_FRAME = (PREFIX, 0x00A1)
+# What its timer counts in a second, in a millisecond and in a jiffy.
+TIMER = 1193181
+MILLISECOND, JIFFY = TIMER // 1000, TIMER // 70
 
 
 class Allegro(Outside):
     name, levels = "allegro", 64
+
+    def delay(self):
+        """Counts of its timer."""
+        speed = word(self.reel.data, 16, 2)
+        if speed != self.reel.speed:
+            self.touch("speed-2-bytes")
+        if speed == 0:
+            self.touch("speed-0")
+        return speed * (JIFFY if self.format == FLI else MILLISECOND) or JIFFY
+
+    @staticmethod
+    def delay_of(milliseconds, jiffies):
+        return MILLISECOND * milliseconds if jiffies is None else JIFFY * jiffies
 
     def level256(self, component):
         return component // 4

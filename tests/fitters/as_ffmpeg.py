@@ -1,8 +1,16 @@
 """Reads and plays as FFmpeg does; every `touch` is a rule under its condition."""
+from fractions import Fraction
+
 from outside import Outside, Shown
-from reel import FRAME, kind, word
+from reel import FLI, FRAME, kind, word
 
 F5FA = 0xF5FA
+MOST_SPEED, SPEED_FOR_0 = 2000, 5
+
+
+def speed_of(reel):
+    """What it takes for the speed: four bytes in an FLI too."""
+    return word(reel.data, 16, 4)
 
 
 class NoFrame(Exception):
@@ -13,8 +21,21 @@ class FFmpeg(Outside):
     name, levels = "ffmpeg", 256
 
     def __init__(self, reel, row_bytes):
-        super().__init__(reel.width, reel.height)
+        super().__init__(reel)
         self.row_bytes = row_bytes
+
+    def delay(self):
+        """Seconds, as a fraction."""
+        speed = speed_of(self.reel)
+        if speed != self.reel.speed:
+            self.touch("speed-4-bytes")
+        if speed == 0:
+            self.touch("speed-0")
+        return Fraction(speed or SPEED_FOR_0, 70 if self.format == FLI else 1000)
+
+    @staticmethod
+    def delay_of(milliseconds, jiffies):
+        return Fraction(milliseconds, 1000) if jiffies is None else Fraction(jiffies, 70)
 
     def last_pixel(self, row, pixel):
         if self.row_bytes == self.width:
@@ -48,7 +69,7 @@ class FFmpeg(Outside):
         """Every frame chunk once, the ring and what follows it too."""
         number = 0
         for c in reel.chunks:
-            if reel.speed > 2000:
+            if speed_of(reel) > MOST_SPEED:
                 self.touch("speed-over-2000")
             if kind(c) == FRAME:
                 shown = self.frame(c)

@@ -1,7 +1,7 @@
 """Reads and plays as Pillow does; every `touch` is a rule under its condition."""
 from document import BLACK, BRUN, COLOR, COLOR256, COPY, LC, PSTAMP, SS2
 from outside import Outside, Shown
-from reel import CHUNK_HEADER, FILE_HEADER, FRAME, FRAME_HEADER, PALETTE_BYTES, PREFIX, kind, word
+from reel import CHUNK_HEADER, FILE_HEADER, FLI, FRAME, FRAME_HEADER, PALETTE_BYTES, PREFIX, kind, word
 
 KNOWN = (COLOR256, SS2, COLOR, LC, BLACK, BRUN, COPY, PSTAMP)
 
@@ -10,7 +10,7 @@ class Pillow(Outside):
     name, levels = "pillow", 256
 
     def __init__(self, reel):
-        super().__init__(reel.width, reel.height)
+        super().__init__(reel)
         self.true_palette = bytearray(PALETTE_BYTES)
         self.first_palette = bytearray(i // 3 for i in range(PALETTE_BYTES))
         self.find_palette(reel.data)
@@ -29,6 +29,17 @@ class Pillow(Outside):
                 self.sub_chunk(which, data[at + CHUNK_HEADER:at + size])
                 return
             at += size
+
+    def delay(self):
+        """Milliseconds."""
+        speed = word(self.reel.data, 16, 4)
+        if speed != self.reel.speed:
+            self.touch("speed-4-bytes")
+        return speed * 1000 // 70 if self.format == FLI else speed
+
+    @staticmethod
+    def delay_of(milliseconds, _jiffies):
+        return milliseconds
 
     def level64(self, component):
         if component > 15:

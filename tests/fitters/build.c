@@ -1,5 +1,5 @@
-/* Builds a reel in house form with the library from states on standard input: width, height, frames and speed as
- * words of 4 bytes, then each frame's pixels and palette. */
+/* Builds a reel in house form with the library from states on standard input: format, width, height, frames and speed
+ * (of an FLI in jiffies) as words of 4 bytes, then each frame's pixels and palette. */
 #include <stdio.h>
 #include <stdlib.h>
 
@@ -17,7 +17,7 @@ static uint32_t read_word(void)
 
 int main(void)
 {
-    uint32_t width = read_word(), height = read_word(), frames = read_word(), speed = read_word();
+    uint32_t format = read_word(), width = read_word(), height = read_word(), frames = read_word(), speed = read_word();
     size_t pixels = (size_t)width * height, state = pixels + PALETTE_BYTES;
     uint8_t *states = calloc(frames + 1, state);
     uint8_t *work = malloc(2 * state);
@@ -25,7 +25,7 @@ int main(void)
     uint8_t *file = calloc(room, 1);
     if (fread(states + state, state, frames, stdin) != frames)
         return 2;
-    flic_reel_answer r = flic_open_reel(width, height, speed, file, room);
+    flic_reel_answer r = (format == FLIC_FLI ? flic_open_fli : flic_open_reel)(width, height, speed, file, room);
     for (uint32_t i = 0; i < frames && r.number == 0; i++) {
         uint8_t *shown = states + i * state, *next = shown + state;
         r = flic_add_frame(r.reel, file, room, shown, pixels, shown + pixels, PALETTE_BYTES,

@@ -1,13 +1,16 @@
 """Compares what a decoder gave with what it is expected to give and with our frames, and keeps count."""
 from collections import Counter
 
-from players import LEVELS
+from players import MODELS
+from reel import ENDINGS
 from rules import RULES
 
-PARTS = ("picture", "palette")
+PARTS = ("picture", "palette", "delay")
 
-# Fewer compared than this means that the test has lost its reach: frames, and pictures and palettes as ours.
-FLOORS = {"ffmpeg": (3700, 3250, 3650), "allegro": (5300, 4400, 5250), "pillow": (5150, 4950, 2150)}
+# Fewer compared than this means that the test has lost its reach: frames; pictures, palettes and delays as ours.
+FLOORS = {
+    "ffmpeg": (5550, 4900, 5400, 5400), "allegro": (7750, 6450, 7500, 7550), "pillow": (7500, 7050, 3200, 7350),
+}
 
 
 class Tally:
@@ -20,8 +23,27 @@ class Tally:
         self.differences.append(" ".join(map(str, words)))
 
 
-def at_levels(palette, decoder):
-    return bytes(c // 4 for c in palette) if LEVELS[decoder] == 64 else palette
+class House:
+    """How many frames of reels in house form come out right, each part from one decoder at least."""
+
+    def __init__(self):
+        self.frames, self.right = Counter(), Counter()
+
+    def count(self, form, frames, seen):
+        self.frames[form] += frames
+        for number in range(frames):
+            self.right[form] += (number, "picture") in seen and (number, "palette") in seen
+
+    def lines(self):
+        for form, ending in ENDINGS.items():
+            yield (f"{ending} in house form: {self.right[form]} of {self.frames[form]} frames with picture and palette as "
+                   "ours, each from one decoder at least")
+
+
+def as_it_has(decoder, picture, palette, delay):
+    """A frame of ours at the decoder's levels and in its unit of time."""
+    model = MODELS[decoder]
+    return picture, bytes(c // 4 for c in palette) if model.levels == 64 else palette, model.delay_of(*delay)
 
 
 def compare(tally, decoder, play, expected, given, ours):
@@ -39,12 +61,11 @@ def compare(tally, decoder, play, expected, given, ours):
             tally.not_shown[decoder] += 1
             continue
         tally.frames[decoder] += 1
-        for part, got, acted in zip(PARTS, parts, (e.picture, e.palette)):
+        for part, got, acted in zip(PARTS, parts, (e.picture, e.palette, e.delay)):
             if got != acted:
                 tally.differ(decoder, *play, f"step {step}: {part}, rules {sorted(e.touched | at_work[part])}")
         if e.number is not None and e.number < len(ours):
-            picture, palette = ours[e.number]
-            same = [got == part for got, part in zip(parts, (picture, at_levels(palette, decoder)))]
+            same = [got == part for got, part in zip(parts, as_it_has(decoder, *ours[e.number]))]
             judge(tally, decoder, (*play, f"step {step}:"), same, at_work)
             touched = set().union(*(RULES[decoder][rule][0] for rule in e.touched))
             attested[e.number] = {part for part, is_same in zip(PARTS, same) if is_same and part not in touched}
@@ -90,10 +111,11 @@ def lost_reach(tally):
 
 
 def table(tally):
-    yield "decoder   frames  pictures as ours  palettes as ours  no frame came"
+    yield "decoder   frames  pictures as ours  palettes as ours  delays as ours  no frame came"
     for decoder in RULES:
         yield (f"{decoder:8}{tally.frames[decoder]:8}{tally.as_ours[decoder, 'picture']:18}"
-               f"{tally.as_ours[decoder, 'palette']:18}{tally.not_shown[decoder]:15}")
+               f"{tally.as_ours[decoder, 'palette']:18}{tally.as_ours[decoder, 'delay']:16}"
+               f"{tally.not_shown[decoder]:15}")
     yield ""
     yield "deviation acted out        frames that met it  frames unlike ours by it"
     for decoder, rules in RULES.items():

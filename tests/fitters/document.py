@@ -1,7 +1,8 @@
 """Reads frames as the Animator Pro document and documents 01 and 02 say; each step can be taken otherwise by a decoder."""
-from reel import CHUNK_HEADER, FRAME_HEADER, PALETTE_BYTES, word
+from reel import CHUNK_HEADER, FLI, FRAME_HEADER, LAPS, PALETTE_BYTES, word
 
 COLOR256, SS2, COLOR, LC, BLACK, BRUN, COPY, PSTAMP = 4, 7, 11, 12, 13, 15, 16, 18
+NOT_IN_FLI = (SS2, PSTAMP)
 
 
 class Unforeseen(Exception):
@@ -13,9 +14,10 @@ def signed(byte):
 
 
 class Document:
-    def __init__(self, width, height):
-        self.width, self.height = width, height
-        self.picture, self.palette = bytearray(width * height), bytearray(PALETTE_BYTES)
+    def __init__(self, of):
+        """A blank state of the format and size of a reel or a maker."""
+        self.format, self.width, self.height = of.format, of.width, of.height
+        self.picture, self.palette = bytearray(self.width * self.height), bytearray(PALETTE_BYTES)
         self.touched = set()
 
     def frame(self, data):
@@ -27,8 +29,13 @@ class Document:
             at += size
         return True
 
+    def is_refused(self, kind):
+        return self.format == FLI and kind in NOT_IN_FLI
+
     def sub_chunk(self, kind, body):
         """Gives where the data ends."""
+        if self.is_refused(kind):
+            raise Unforeseen(f"a sub-chunk of kind {kind} in an FLI, which we refuse")
         if kind in (COLOR256, COLOR):
             return self.colour(body, self.level64 if kind == COLOR else self.level256)
         if kind == BLACK:
@@ -116,3 +123,12 @@ class Document:
                 at = self.packets(body, at, row, 0, w, 2)
                 row, lines = row + 1, lines - 1
         return at
+
+
+def played(reel, laps=LAPS):
+    """Picture and palette after each frame from frame 1 to the ring, and after those of further laps."""
+    places, reader, frames = reel.frame_places(), Document(reel), []
+    for place in places + places[1:] * (laps - 1):
+        reader.frame(reel.chunks[place])
+        frames.append((bytes(reader.picture), bytes(reader.palette)))
+    return frames

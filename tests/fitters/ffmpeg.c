@@ -1,5 +1,6 @@
 /* Plays a file with FFmpeg's flic demuxer and decoder and writes each frame: a byte (1 shown, 0 none came), the
- * pixels, the palette. Prints whether the file was recognised, and how many bytes a row of the decoder's buffer has. */
+ * pixels, the palette. Prints whether the file was recognised, how many bytes a row of the decoder's buffer has, and
+ * for how long a frame shows: a fraction of seconds. */
 #include <stdio.h>
 #include <stdlib.h>
 #include <string.h>
@@ -68,6 +69,7 @@ int main(int count, char **words)
         av_packet_unref(packet);
         av_frame_unref(frame);
     }
-    printf("%d %d\n", recognised, row_bytes);
+    AVRational delay = file->streams[0]->time_base;
+    printf("%d %d %d %d\n", recognised, row_bytes, delay.num, delay.den);
     return fclose(out) == 0 ? 0 : 2;
 }

@@ -1,13 +1,16 @@
 """Frames that the papers allow and house form never writes: every kind, with all the freedoms that a reader grants."""
 import reel
 from document import BLACK, BRUN, COLOR, COLOR256, COPY, LC, PSTAMP, SS2
+from reel import FLC, FLI
 
 UNKNOWN = (0, 1, 5, 14, 17, 19, 25, 0x0107, 0x800F)
+# An FLI's 200 rows would make large files.
+MOST_LC_ROWS = {FLC: 200, FLI: 24}
 
 
 class Maker:
-    def __init__(self, rng, width, height):
-        self.rng, self.width, self.height = rng, width, height
+    def __init__(self, rng, form, width, height):
+        self.rng, self.format, self.width, self.height = rng, form, width, height
 
     def colour(self, kind, at_most=256):
         rng, index, packets = self.rng, 0, []
@@ -69,12 +72,16 @@ class Maker:
     def lc(self):
         rng = self.rng
         first = rng.randrange(self.height)
-        rows = rng.randrange(self.height - first + 1)
+        rows = rng.randrange(min(self.height - first, MOST_LC_ROWS[self.format]) + 1)
         body = first.to_bytes(2, "little") + rows.to_bytes(2, "little")
         for _ in range(rows):
             packets, count = self.delta_packets(1)
             body += bytes([count]) + packets
         return reel.chunk(LC, body)
+
+    def delta(self):
+        """What the format stores changes in, without last-pixel words."""
+        return self.lc() if self.format == FLI else self.ss2(False)
 
     def animator_delta(self, before, after):
         """Kind 12 as the original Animator wrote it: from the first changed row to the last, gaps by skips alone."""
@@ -89,6 +96,9 @@ class Maker:
         inner = reel.chunk(COPY, self.rng.randbytes(8))
         return reel.chunk(PSTAMP, b"\2\0\4\0\1\0" + inner)
 
+    def stepped_over(self):
+        return self.unknown() if self.format == FLI else self.stamp()
+
     def unknown(self):
         return reel.chunk(self.rng.choice(UNKNOWN), self.rng.randbytes(self.rng.choice([4, 6, 20])))
 
@@ -98,9 +108,16 @@ class Maker:
     def black(self):
         return reel.chunk(BLACK, b"")
 
+    def any_picture(self):
+        """The sub-chunks that show some picture whatever was there."""
+        return [self.black(), self.lc()] if self.format == FLI else [self.brun(True)]
+
     def whole(self, picture, palette):
         """The sub-chunks that show this picture and palette whatever was there."""
-        return [reel.chunk(COLOR256, b"\1\0\0\0" + palette), self.brun(True, picture)]
+        colours = reel.chunk(COLOR256, b"\1\0\0\0" + palette)
+        if self.format == FLI:
+            return [colours, self.black(), self.animator_delta(bytes(len(picture)), picture)]
+        return [colours, self.brun(True, picture)]
 
 
 def animator_row(before, after):

@@ -1,4 +1,5 @@
-/* Plays a reel three laps with the library and writes each frame: a byte 1, the pixels, the palette. */
+/* Plays a reel three laps with the library and writes each frame: a byte 1, the pixels, the palette. Prints for how
+ * many milliseconds a frame shows, and of an FLI the jiffies that the library makes of them. */
 #include <stdio.h>
 
 #include "player.h"
@@ -14,10 +15,16 @@ static void write_frame(void *out, size_t number, const uint8_t *picture, size_t
 int main(int count, char **words)
 {
     reel_file reel;
-    if (count != 3 || !open_reel_file(words[1], &reel)) {
+    if (count != 3) {
         fprintf(stderr, "use: ours REEL FRAMES\n");
         return 2;
     }
+    if (!open_reel_file(words[1], &reel))
+        return 1;
+    printf("%u", reel.header.speed);
+    if (reel.header.format == FLIC_FLI)
+        printf(" %u", flic_in_jiffies(reel.header.speed).delay);
+    printf("\n");
     FILE *out = fopen(words[2], "wb");
     if (out == NULL) {
         perror(words[2]);

@@ -1,4 +1,4 @@
-"""Plays a file with Pillow, so many frames round and round: whether each was shown, its pixels, its palette."""
+"""Plays a file with Pillow, so many frames round and round: whether each was shown, its pixels, palette and delay."""
 from PIL import Image
 
 
@@ -11,4 +11,4 @@ def play(path, how_many):
                 shown = True
             except OSError:
                 shown = False
-            yield shown, image.tobytes(), bytes(image.getpalette())
+            yield shown, image.tobytes(), bytes(image.getpalette()), image.info["duration"]

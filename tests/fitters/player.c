@@ -3,18 +3,15 @@
 
 #include <stdio.h>
 #include <stdlib.h>
-#include <string.h>
 
-#include "flic.h"
+enum { LAPS = 3 };
 
-enum { FILE_HEADER = 128, CHUNK_HEADER = 6, FRAME_TYPE = 0xF1FA, LAPS = 3 };
-
-static uint32_t word_at(const uint8_t *bytes, size_t at, int size)
+/* Whether it is accepted; says what is refused and where. */
+static int accepted(const char *path, uint32_t number, uint64_t place)
 {
-    uint32_t word = 0;
-    for (int i = size - 1; i >= 0; i--)
-        word = word << 8 | bytes[at + i];
-    return word;
+    if (number != 0)
+        fprintf(stderr, "%s: refused %u at %llu\n", path, number, (unsigned long long)place);
+    return number == 0;
 }
 
 int open_reel_file(const char *path, reel_file *reel)
@@ -29,14 +26,12 @@ int open_reel_file(const char *path, reel_file *reel)
     reel->bytes = malloc(reel->length + 1);
     size_t got = fread(reel->bytes, 1, reel->length, file);
     fclose(file);
-    if (got != reel->length || got < FILE_HEADER) {
-        fprintf(stderr, "%s: no whole file header\n", path);
+    if (got != reel->length) {
+        fprintf(stderr, "%s: can't be read whole\n", path);
         return 0;
     }
-    reel->frames = word_at(reel->bytes, 6, 2);
-    reel->width = word_at(reel->bytes, 8, 2);
-    reel->height = word_at(reel->bytes, 10, 2);
-    return 1;
+    reel->header = flic_read_header(reel->bytes, reel->length);
+    return accepted(path, reel->header.number, reel->header.place);
 }
 
 static int check(const char *path, const reel_file *reel, size_t pixels)
@@ -46,45 +41,32 @@ static int check(const char *path, const reel_file *reel, size_t pixels)
     flic_answer answer = flic_check_reel(reel->bytes, reel->length, work, pixels, work + pixels, PALETTE_BYTES,
                                          second, pixels, second + pixels, PALETTE_BYTES);
     free(work);
-    if (answer.number != 0)
-        fprintf(stderr, "%s: refused %u at %llu\n", path, answer.number, (unsigned long long)answer.place);
-    return answer.number == 0;
-}
-
-/* The offset of the first frame chunk from an offset on; the reel has been accepted, so there is one. */
-static size_t frame_from(const reel_file *reel, size_t at)
-{
-    while (word_at(reel->bytes, at + 4, 2) != FRAME_TYPE)
-        at += word_at(reel->bytes, at, 4);
-    return at;
-}
-
-static size_t frame_behind(const reel_file *reel, size_t at)
-{
-    return frame_from(reel, at + word_at(reel->bytes, at, 4));
+    return accepted(path, answer.number, answer.place);
 }
 
 int play_three_laps(const char *path, const reel_file *reel, show_frame *show, void *context)
 {
-    size_t pixels = reel->width * reel->height;
+    const flic_header *header = &reel->header;
+    size_t pixels = header->width * header->height;
     if (!check(path, reel, pixels))
         return 0;
     uint8_t *picture = calloc(pixels + PALETTE_BYTES, 1);
     uint8_t *palette = picture + pixels;
-    size_t first = frame_from(reel, FILE_HEADER);
-    size_t at = first;
-    int accepted = 1;
-    for (size_t number = 0; number <= LAPS * reel->frames && accepted; number++) {
-        if (number > 0)
-            at = (number - 1) % reel->frames == 0 ? frame_behind(reel, first) : frame_behind(reel, at);
-        flic_answer answer = flic_read_frame(reel->bytes + at, reel->length - at, reel->width, reel->height,
-                                             picture, pixels, palette, PALETTE_BYTES);
-        accepted = answer.number == 0;
-        if (accepted)
-            show(context, number + 1, picture, pixels, palette);
-        else
-            fprintf(stderr, "%s: frame at %zu refused %u\n", path, at, answer.number);
+    uint64_t at = FLIC_FILE_HEADER, first_end = 0;
+    int played = 1;
+    for (size_t number = 1; number <= LAPS * header->frames + 1 && played; number++) {
+        flic_span frame = flic_next_frame(reel->bytes, header->size, at);
+        flic_answer answer = {frame.number, frame.place};
+        if (frame.number == 0)
+            answer = flic_read_frame(reel->bytes + frame.from, frame.end - frame.from, header->format, header->width,
+                                     header->height, picture, pixels, palette, PALETTE_BYTES);
+        played = accepted(path, answer.number, answer.place);
+        if (number == 1)
+            first_end = frame.end;
+        at = (number - 1) % header->frames == 0 ? first_end : frame.end;
+        if (played)
+            show(context, number, picture, pixels, palette);
     }
     free(picture);
-    return accepted;
+    return played;
 }

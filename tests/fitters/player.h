@@ -2,20 +2,19 @@
 #ifndef PLAYER_H
 #define PLAYER_H
 
-#include <stddef.h>
-#include <stdint.h>
+#include "flic.h"
 
-enum { PALETTE_BYTES = 768 };
+enum { PALETTE_BYTES = FLIC_PALETTE };
 
 typedef struct {
     uint8_t *bytes;
     size_t length;
-    size_t width, height, frames;
+    flic_header header;
 } reel_file;
 
 typedef void show_frame(void *context, size_t number, const uint8_t *picture, size_t pixels, const uint8_t *palette);
 
-/* Gives 0 if the file can't be read; says why. */
+/* Gives 0 if the file can't be read or the library refuses its header; says why. */
 int open_reel_file(const char *path, reel_file *reel);
 
 /* Gives 0 if the library refuses the reel or a frame of it; says where. */

@@ -1,12 +1,13 @@
 """Has reels played by the programs and by Pillow, and says with each play what that decoder is expected to show."""
 import os
+import re
 import subprocess
+from fractions import Fraction
 
 import pillow_player
 from as_allegro import Allegro
-from as_ffmpeg import FFmpeg
+from as_ffmpeg import MOST_SPEED, FFmpeg, speed_of
 from as_pillow import Pillow
-from document import Document
 from reel import LAPS, PALETTE_BYTES
 
 
@@ -32,25 +33,28 @@ class Players:
             return done.stdout.decode(), frames.read()
 
 
-def split(data, reel):
-    """Frames as (whether shown, pixels, palette)."""
+def split(data, reel, delay):
+    """Frames as (whether shown, pixels, palette, delay)."""
     pixels = reel.width * reel.height
     size = 1 + pixels + PALETTE_BYTES
     assert len(data) % size == 0
-    return [(data[at] == 1, data[at + 1:at + 1 + pixels], data[at + 1 + pixels:at + size])
+    return [(data[at] == 1, data[at + 1:at + 1 + pixels], data[at + 1 + pixels:at + size], delay)
             for at in range(0, len(data), size)]
 
 
 def by_us(players, reel, path):
-    return [(picture, palette) for _, picture, palette in split(players.run("ours", path)[1], reel)]
+    """Frames as (pixels, palette, delay), the delay as milliseconds and an FLI's jiffies."""
+    said, data = players.run("ours", path)
+    milliseconds, *jiffies = map(int, said.split())
+    return [frame[1:] for frame in split(data, reel, (milliseconds, *(jiffies or [None])))]
 
 
-def by_document(reel):
-    places, reader, frames = reel.frame_places(), Document(reel.width, reel.height), []
-    for place in places + places[1:] * (LAPS - 1):
-        reader.frame(reel.chunks[place])
-        frames.append((bytes(reader.picture), bytes(reader.palette)))
-    return frames
+def refused_by_us(players, path):
+    """The number and the place of our refusal, none if we play it."""
+    words = [players.program("ours"), path, os.devnull]
+    said = subprocess.run(words, stdout=subprocess.PIPE, stderr=subprocess.PIPE, check=False).stderr.decode()
+    found = re.search(r": refused (\d+) at (\d+)$", said.strip())
+    return found and tuple(map(int, found.groups()))
 
 
 def steps(reel, own_loop):
@@ -59,16 +63,16 @@ def steps(reel, own_loop):
 
 def by_ffmpeg(players, reel, path, own_loop):
     said, data = players.run("ffmpeg", path)
-    recognised, row_bytes = map(int, said.split())
-    if recognised != (reel.speed <= 2000):
+    recognised, row_bytes, seconds, parts = map(int, said.split())
+    if recognised != (speed_of(reel) <= MOST_SPEED):
         raise ValueError(f"FFmpeg {'recognised' if recognised else 'did not recognise'} {path}")
-    return list(FFmpeg(reel, row_bytes).play(reel, own_loop)), split(data, reel)
+    return list(FFmpeg(reel, row_bytes).play(reel, own_loop)), split(data, reel, Fraction(seconds, parts))
 
 
 def by_allegro(players, reel, path, own_loop):
     how_many = steps(reel, own_loop)
-    data = players.run("allegro", path, how_many)[1]
-    return list(Allegro(reel.width, reel.height).play(reel, how_many)), split(data, reel)
+    said, data = players.run("allegro", path, how_many)
+    return list(Allegro(reel).play(reel, how_many)), split(data, reel, int(said))
 
 
 def by_pillow(players, reel, path, own_loop):
@@ -77,4 +81,4 @@ def by_pillow(players, reel, path, own_loop):
 
 
 DECODERS = {"ffmpeg": by_ffmpeg, "allegro": by_allegro, "pillow": by_pillow}
-LEVELS = {"ffmpeg": FFmpeg.levels, "allegro": Allegro.levels, "pillow": Pillow.levels}
+MODELS = {model.name: model for model in (FFmpeg, Allegro, Pillow)}

@@ -3,6 +3,7 @@
 #include <stdio.h>
 #include <stdlib.h>
 #include <string.h>
+#include <unistd.h>
 
 #include "player.h"
 
@@ -40,12 +41,14 @@ static int play(played_reel *played, const char *folder, const char *name)
 {
     char path[LINE * 2];
     reel_file reel;
-    snprintf(path, sizeof path, "%s/%s.flc", folder, name);
+    snprintf(path, sizeof path, "%s/%s.fli", folder, name);
+    if (access(path, F_OK) != 0)
+        snprintf(path, sizeof path, "%s/%s.flc", folder, name);
     if (!open_reel_file(path, &reel))
         return 0;
     snprintf(played->name, NAME, "%s", name);
     free(played->frames);
-    played->frames = calloc(3 * reel.frames + 1, sizeof(frame_digests));
+    played->frames = calloc(3 * reel.header.frames + 1, sizeof(frame_digests));
     played->count = 0;
     int accepted = play_three_laps(path, &reel, keep_digests, played);
     free(reel.bytes);
