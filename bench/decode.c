@@ -76,7 +76,7 @@ static unsigned time_reel(const struct reel *reel, double least[COLUMNS])
 static void print_row(const char *file, const double least[COLUMNS], unsigned rounds)
 {
     const char *slash = strrchr(file, '/'), *name = slash == NULL ? file : slash + 1;
-    printf("%-8.*s", (int)strcspn(name, "."), name);
+    printf("%-12s", name);
     for (int column = 0; column < COLUMNS; column++)
         printf(" %8.2f", 1e6 * least[column]);
     printf(" %8.2f %8.2f %8.2f %8u\n", least[OURS] / least[LIBAV], least[OURS] / least[HELD],
@@ -90,7 +90,7 @@ int main(int count, char **names)
     printf("Decoding, microseconds a frame, by libavcodec %u.%u.%u with the frame that shows let go and held; pass 1 is\n"
            "ours on frames that are refused at their very end, check a frame of the whole-reel check. Then ours over others.\n",
            version >> 16, version >> 8 & 255, version & 255);
-    printf("%-8s %8s %8s %8s %8s %8s %8s %8s %8s %8s %8s %8s\n", "reel", "ours", "libav", "held", "plain C", "pass 1",
+    printf("%-12s %8s %8s %8s %8s %8s %8s %8s %8s %8s %8s %8s\n", "reel", "ours", "libav", "held", "plain C", "pass 1",
            "memcpy", "check", "/libav", "/held", "/plain", "rounds");
     for (int i = 1; i < count; i++) {
         double least[COLUMNS] = {0};

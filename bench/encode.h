@@ -1,4 +1,5 @@
-/* Deltas as other tools store them and house form never does: kind 12, and kind 7 where a full chunk is shorter. */
+/* Deltas as other tools store them in an FLC and house form never does: kind 12, and kind 7 where a full chunk is
+ * shorter. */
 #ifndef ENCODE_H
 #define ENCODE_H
 

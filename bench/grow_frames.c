@@ -16,7 +16,7 @@ struct grown {
     size_t size;
 };
 
-static void grow(struct grown grown[COUNTS], unsigned width, unsigned height, unsigned rounds)
+static void grow(struct grown grown[COUNTS], uint32_t format, unsigned width, unsigned height, unsigned rounds)
 {
     size_t length = 128 + 2 * FLIC_FRAME_MOST + (size_t)counts[COUNTS - 1] * MOST_BYTES_A_FRAME;
     struct state *states = scene_states(BOARD, width, height), blank = blank_state(width, height);
@@ -25,7 +25,7 @@ static void grow(struct grown grown[COUNTS], unsigned width, unsigned height, un
     for (unsigned round = 0; round < rounds; round++) {
         for (unsigned k = 0; k < COUNTS; k++) {
             double start = seconds();
-            grown[k].size = build_into(bytes, length, width, height, counts[k], states, &blank, work);
+            grown[k].size = build_into(bytes, length, format, width, height, counts[k], states, &blank, work);
             double built = seconds();
             check_bytes(bytes, grown[k].size, (size_t)width * height, work);
             keep_least(&grown[k].check, seconds() - built);
@@ -49,13 +49,13 @@ static void print_time(unsigned k, double now, double before, double first)
         printf(" %9.3f", 1e6 * (now - before) / (counts[k] - counts[k - 1]));
 }
 
-static void print_growth(unsigned width, unsigned height, unsigned rounds)
+static void print_growth(uint32_t format, unsigned width, unsigned height, unsigned rounds)
 {
     struct grown grown[COUNTS] = {0};
-    grow(grown, width, height, rounds);
+    grow(grown, format, width, height, rounds);
     for (unsigned k = 0; k < COUNTS; k++) {
         const struct grown *row = &grown[k], *before = k == 0 ? row : row - 1;
-        printf("%3u by %-3u %7u %9zu", width, height, counts[k], row->size);
+        printf("%s %3u by %-3u %7u %9zu", ending_of(format), width, height, counts[k], row->size);
         print_time(k, row->check, before->check, grown->check);
         print_time(k, row->build, before->build, grown->build);
         printf("\n");
@@ -67,9 +67,10 @@ int main(void)
 {
     printf("Growth with frames, the board's states lap after lap: microseconds a frame, that over the first row's, and\n"
            "microseconds for each frame more than in the row above.\n");
-    printf("%-10s %7s %9s %9s %7s %9s %9s %7s %9s\n", "size", "frames", "bytes", "check", "/first", "further", "build",
+    printf("%-14s %7s %9s %9s %7s %9s %9s %7s %9s\n", "size", "frames", "bytes", "check", "/first", "further", "build",
            "/first", "further");
-    print_growth(32, 20, 200);
-    print_growth(320, 200, 6);
+    print_growth(FLIC_FLC, 32, 20, 200);
+    print_growth(FLIC_FLC, 320, 200, 6);
+    print_growth(FLIC_FLI, 320, 200, 6);
     return 0;
 }

@@ -1,5 +1,5 @@
-/* Makes the reels of 320 by 200 through the C boundary, two with deltas by encode.c, with the states that each shows,
- * and says what each holds.
+/* Makes the reels of 320 by 200 through the C boundary in both formats, two FLCs with deltas by encode.c, with the
+ * states that they show, and says what each holds.
  * Usage: make_reels DIRECTORY */
 #include <stdio.h>
 #include <string.h>
@@ -83,14 +83,14 @@ static void count_frame(struct met *met, const struct reel *reel, unsigned i)
     }
 }
 
-static void print_met(enum scene scene, const struct reel *reel)
+static void print_met(const char *name, const struct reel *reel)
 {
     static const char *const names[KINDS] = {[4] = "COLOR256", [SS2] = "SS2", [LC] = "LC", [13] = "BLACK", [15] = "BRUN",
                                               [16] = "COPY"};
     struct met met = {0};
     for (unsigned i = 1; i <= reel->frames; i++)
         count_frame(&met, reel, i);
-    printf("%-8s %10zu %10zu %10u  ", scene_names[scene], frame_length(reel, 0), met.bytes / reel->frames,
+    printf("%-12s %10zu %10zu %10u  ", name, frame_length(reel, 0), met.bytes / reel->frames,
            met.packets / reel->frames);
     for (unsigned kind = 0; kind < KINDS; kind++)
         if (met.kinds[kind] > 0)
@@ -98,11 +98,11 @@ static void print_met(enum scene scene, const struct reel *reel)
     printf("\n");
 }
 
-static FILE *created(const char *directory, enum scene scene, const char *ending)
+static FILE *created(const char *directory, const char *name)
 {
-    char name[4096];
-    snprintf(name, sizeof name, "%s/%s.%s", directory, scene_names[scene], ending);
-    FILE *file = fopen(name, "wb");
+    char path[4096];
+    snprintf(path, sizeof path, "%s/%s", directory, name);
+    FILE *file = fopen(path, "wb");
     if (file == NULL)
         fail("a file can't be made", "check that target/bench can be written to");
     return file;
@@ -114,31 +114,61 @@ static void write_all(FILE *file, const uint8_t *bytes, size_t length)
         fail("a file can't be written", "check that there is room in target/bench");
 }
 
-/* Writes picture and palette after each frame as flic_read_frame gives them, which must be those that were asked for. */
-static void write_states(FILE *file, const struct reel *reel, const struct state *asked)
+static void close_file(FILE *file)
+{
+    if (fclose(file) != 0)
+        fail("a file can't be written", "check that there is room in target/bench");
+}
+
+/* Picture and palette after each frame as flic_read_frame gives them must be those that were asked for. */
+static void check_states(const struct reel *reel, const struct state *asked)
 {
     size_t n = (size_t)reel->width * reel->height;
     struct state shown = blank_state(reel->width, reel->height);
     for (unsigned i = 0; i < reel->frames; i++) {
-        flic_answer answer = flic_read_frame(frame_bytes(reel, i), frame_length(reel, i), reel->width, reel->height,
-                                             shown.picture, n, shown.palette, PALETTE);
+        flic_answer answer = flic_read_frame(frame_bytes(reel, i), frame_length(reel, i), reel->format, reel->width,
+                                             reel->height, shown.picture, n, shown.palette, PALETTE);
         if (answer.number != 0 || memcmp(shown.picture, asked[i].picture, n) != 0 ||
             memcmp(shown.palette, asked[i].palette, PALETTE) != 0)
             fail("a reel doesn't show what was asked for", "run ./test");
-        write_all(file, shown.picture, n);
-        write_all(file, shown.palette, PALETTE);
     }
     free_state(&shown);
 }
 
-static struct reel made_reel(enum scene scene, const struct state *states)
+static void write_states(const char *directory, const char *scene, const struct state *states)
 {
-    struct reel built = built_reel(320, 200, SCENE_FRAMES, states);
-    if (scene != SCROLL && scene != ANIMATOR)
+    char name[64];
+    snprintf(name, sizeof name, "%s.states", scene);
+    FILE *file = created(directory, name);
+    for (unsigned i = 0; i < SCENE_FRAMES; i++) {
+        write_all(file, states[i].picture, FLIC_PIXELS_MOST);
+        write_all(file, states[i].palette, PALETTE);
+    }
+    close_file(file);
+}
+
+/* An FLI has no kind 7, and in house form the deltas of kind 12. */
+static struct reel made_reel(uint32_t format, enum scene scene, const struct state *states)
+{
+    struct reel built = built_reel(format, FLIC_WIDTH_MOST, FLIC_HEIGHT_MOST, SCENE_FRAMES, states);
+    if (format == FLIC_FLI || (scene != SCROLL && scene != ANIMATOR))
         return built;
     struct reel encoded = encoded_reel(&built, scene == SCROLL ? SS2 : LC, states);
     free_reel(&built);
     return encoded;
+}
+
+static void make_reel(const char *directory, uint32_t format, enum scene scene, const struct state *states)
+{
+    char name[64];
+    snprintf(name, sizeof name, "%s.%s", scene_names[scene], ending_of(format));
+    struct reel reel = made_reel(format, scene, states);
+    FILE *file = created(directory, name);
+    print_met(name, &reel);
+    check_states(&reel, states);
+    write_all(file, reel.bytes, reel.size);
+    close_file(file);
+    free_reel(&reel);
 }
 
 int main(int count, char **words)
@@ -149,18 +179,13 @@ int main(int count, char **words)
     }
     printf("Reels of 320 by 200, %d frames. A lap is frames 2 to %d and the ring, and leads from frame 1's state back to it.\n",
            SCENE_FRAMES, SCENE_FRAMES);
-    printf("%-8s %10s %10s %10s   %s\n", "reel", "frame 1", "bytes", "packets", "chunks in a lap");
+    printf("%-12s %10s %10s %10s   %s\n", "reel", "frame 1", "bytes", "packets", "chunks in a lap");
     for (enum scene scene = 0; scene < SCENES; scene++) {
-        struct state *states = scene_states(scene, 320, 200);
-        struct reel reel = made_reel(scene, states);
-        FILE *file = created(words[1], scene, "flc"), *shown = created(words[1], scene, "states");
-        print_met(scene, &reel);
-        write_all(file, reel.bytes, reel.size);
-        write_states(shown, &reel, states);
-        if (fclose(file) != 0 || fclose(shown) != 0)
-            fail("a file can't be written", "check that there is room in target/bench");
+        struct state *states = scene_states(scene, FLIC_WIDTH_MOST, FLIC_HEIGHT_MOST);
+        make_reel(words[1], FLIC_FLC, scene, states);
+        make_reel(words[1], FLIC_FLI, scene, states);
+        write_states(words[1], scene_names[scene], states);
         free_states(states);
-        free_reel(&reel);
     }
     return 0;
 }

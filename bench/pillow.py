@@ -39,15 +39,15 @@ def time_round(image):
 
 def time_reel(file):
     image = Image.open(io.BytesIO(file.read_bytes()))
-    compare(file.stem, image, file.with_suffix(".states").read_bytes())
+    compare(file.name, image, file.with_suffix(".states").read_bytes())
     begin, rounds = time.process_time(), []
     while len(rounds) < LEAST_ROUNDS or time.process_time() - begin < REEL_SECONDS:
         rounds.append(time_round(image))
-    print(f"{file.stem:<8} {1e6 * min(rounds):8.2f} {len(rounds):8}", flush=True)
+    print(f"{file.name:<12} {1e6 * min(rounds):8.2f} {len(rounds):8}", flush=True)
 
 
 if __name__ == "__main__":
     print(f"Decoding, microseconds a frame, by Pillow {PIL.__version__}; it keeps frame 1's palette.")
-    print(f"{'reel':<8} {'Pillow':>8} {'rounds':>8}")
+    print(f"{'reel':<12} {'Pillow':>8} {'rounds':>8}")
     for name in sys.argv[1:]:
         time_reel(pathlib.Path(name))

@@ -3,6 +3,8 @@
 
 #include <string.h>
 
+#include "flic.h"
+
 /* What is left to read. */
 struct body {
     const uint8_t *at, *end;
@@ -208,8 +210,8 @@ static int read_chunk(unsigned kind, struct body body, unsigned width, unsigned 
     return end != NULL && body.end - end <= 1;
 }
 
-int plain_read_frame(const uint8_t *bytes, size_t length, unsigned width, unsigned height, uint8_t *picture,
-                     uint8_t *palette)
+int plain_read_frame(const uint8_t *bytes, size_t length, uint32_t format, unsigned width, unsigned height,
+                     uint8_t *picture, uint8_t *palette)
 {
     struct body frame = {bytes, bytes + length};
     if (!has(&frame, 16))
@@ -225,7 +227,7 @@ int plain_read_frame(const uint8_t *bytes, size_t length, unsigned width, unsign
         struct body body = {frame.at + 6, frame.end};
         size_t chunk = take_size(&frame);
         unsigned kind = take_word(&frame);
-        if (chunk < 6 || !has(&body, chunk - 6))
+        if (chunk < 6 || !has(&body, chunk - 6) || (format == FLIC_FLI && (kind == 7 || kind == 18)))
             return 0;
         frame.at = body.end = body.at + (chunk - 6);
         if (!read_chunk(kind, body, width, height, picture, palette))

@@ -39,8 +39,8 @@ static void show_here(struct player *player, struct state *state)
 
 static uint32_t number_of(const struct reel *reel, unsigned i, struct state *shown)
 {
-    return flic_read_frame(frame_bytes(reel, i), frame_length(reel, i), reel->width, reel->height, shown->picture,
-                           (size_t)reel->width * reel->height, shown->palette, PALETTE).number;
+    return flic_read_frame(frame_bytes(reel, i), frame_length(reel, i), reel->format, reel->width, reel->height,
+                           shown->picture, (size_t)reel->width * reel->height, shown->palette, PALETTE).number;
 }
 
 static void play_ours(struct player *player, unsigned i)
@@ -58,7 +58,7 @@ static void play_cut(struct player *player, unsigned i)
 static void play_plain(struct player *player, unsigned i)
 {
     const struct reel *reel = player->reel;
-    if (!plain_read_frame(frame_bytes(reel, i), frame_length(reel, i), reel->width, reel->height,
+    if (!plain_read_frame(frame_bytes(reel, i), frame_length(reel, i), reel->format, reel->width, reel->height,
                           player->shown.picture, player->shown.palette))
         fail("the plain decoder refuses a frame", "look into bench/plain.c");
 }

@@ -60,11 +60,23 @@ static flic_reel accepted(flic_reel_answer answer)
     return answer.reel;
 }
 
-size_t build_into(uint8_t *bytes, size_t length, unsigned width, unsigned height, unsigned frames,
+const char *ending_of(uint32_t format)
+{
+    return format == FLIC_FLI ? "fli" : "flc";
+}
+
+/* Ten frames a second. */
+static flic_reel_answer opened(uint32_t format, unsigned width, unsigned height, uint8_t *bytes, size_t length)
+{
+    return format == FLIC_FLI ? flic_open_fli(width, height, 7, bytes, length)
+                              : flic_open_reel(width, height, 100, bytes, length);
+}
+
+size_t build_into(uint8_t *bytes, size_t length, uint32_t format, unsigned width, unsigned height, unsigned frames,
                   const struct state *states, const struct state *blank, struct state work[2])
 {
     size_t n = (size_t)width * height;
-    flic_reel reel = accepted(flic_open_reel(width, height, 100, bytes, length));
+    flic_reel reel = accepted(opened(format, width, height, bytes, length));
     const struct state *shown = blank;
     for (unsigned i = 0; i < frames; i++) {
         const struct state *next = &states[i % SCENE_FRAMES];
@@ -102,13 +114,13 @@ void check_bytes(const uint8_t *bytes, size_t size, size_t pixels, struct state 
         fail("flic_check_reel refuses a reel", "make it anew with bench/run; if that doesn't help, run ./test");
 }
 
-struct reel built_reel(unsigned width, unsigned height, unsigned frames, const struct state *states)
+struct reel built_reel(uint32_t format, unsigned width, unsigned height, unsigned frames, const struct state *states)
 {
-    struct reel reel = {.width = width, .height = height, .frames = frames};
+    struct reel reel = {.format = format, .width = width, .height = height, .frames = frames};
     struct state blank = blank_state(width, height), work[2] = {blank_state(width, height), blank_state(width, height)};
     size_t most = 128 + (frames + (size_t)1) * FLIC_FRAME_MOST;
     reel.bytes = room(most);
-    reel.size = build_into(reel.bytes, most, width, height, frames, states, &blank, work);
+    reel.size = build_into(reel.bytes, most, format, width, height, frames, states, &blank, work);
     check_bytes(reel.bytes, reel.size, (size_t)width * height, work);
     find_offsets(&reel);
     free_state(&blank);
@@ -153,9 +165,13 @@ struct reel loaded_reel(const char *name)
     if (fread(reel.bytes, 1, reel.size, file) != reel.size)
         fail("a reel's file can't be read whole", "make it with bench/run");
     fclose(file);
-    reel.frames = reel.bytes[6] | reel.bytes[7] << 8;
-    reel.width = reel.bytes[8] | reel.bytes[9] << 8;
-    reel.height = reel.bytes[10] | reel.bytes[11] << 8;
+    flic_header header = flic_read_header(reel.bytes, reel.size);
+    if (header.number != 0)
+        fail("a reel's header is refused", "make the reel anew with bench/run");
+    reel.format = header.format;
+    reel.frames = (unsigned)header.frames;
+    reel.width = (unsigned)header.width;
+    reel.height = (unsigned)header.height;
     find_offsets(&reel);
     return reel;
 }

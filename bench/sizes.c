@@ -49,8 +49,8 @@ static size_t window_frame(unsigned kind, const struct state *page, unsigned fro
         return encode_frame(kind, WIDTH, HEIGHT, old, new, out);
     for (unsigned at = 0; at < PIXELS; at++)
         old[at] = (uint8_t)(new[at] + 1 + at % 2);
-    size_t length = flic_write_frame(WIDTH, HEIGHT, old, PIXELS, page->palette, PALETTE, new, PIXELS, page->palette,
-                                     PALETTE, out, FLIC_FRAME_MOST).length;
+    size_t length = flic_write_frame(FLIC_FLC, WIDTH, HEIGHT, old, PIXELS, page->palette, PALETTE, new, PIXELS,
+                                     page->palette, PALETTE, out, FLIC_FRAME_MOST).length;
     if (length == 0 || out[20] != BRUN)
         fail("rows of a page aren't written as BRUN", "run ./test");
     return length;
@@ -60,7 +60,7 @@ static void open_sized(struct sized *sized, unsigned kind, unsigned rows, const 
 {
     unsigned count = 0;
     struct reel *reel = &sized->reel;
-    *reel = (struct reel){.width = WIDTH, .height = HEIGHT};
+    *reel = (struct reel){.format = FLIC_FLC, .width = WIDTH, .height = HEIGHT};
     reel->bytes = room(SCENE_FRAMES * ENCODED_MOST);
     reel->offsets = room((MOST_FRAMES + 1) * sizeof *reel->offsets);
     for (unsigned page = 0; page + 1 < SCENE_FRAMES; page++)

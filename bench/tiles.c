@@ -116,7 +116,7 @@ int main(void)
                1e6 * maps.plain, maps.ours / maps.compare, maps.ours / maps.plain, 1e9 * maps.ours / (double)pixels(&maps));
         free(maps.pictures);
     }
-    printf("\nFrom frame to frame of the five reels, 320 by 200: microseconds, ours over the plain loop, tiles marked of 1000.\n");
+    printf("\nFrom frame to frame of the eight reels, 320 by 200: microseconds, ours over the plain loop, tiles marked of 1000.\n");
     printf("%-10s %9s %9s %9s %9s\n", "reel", "ours", "plain C", "/plain", "tiles");
     for (enum scene scene = 0; scene < SCENES; scene++) {
         struct maps maps = of_scene(scene);

@@ -1,4 +1,5 @@
-/* A board in a window: plays a reel after SDL's clock, lap after lap, until the window is closed or q is pressed.
+/* A board in a window: plays a reel, FLC or FLI, after SDL's clock, lap after lap, until the window is closed or q is
+ * pressed.
  * A frame redraws only the tiles of 8 by 8 pixels in which it changes a pixel or its colour, as slow panels do.
  * A pixel is a square of SCALE by SCALE, 3 if none is given. Usage: board FILE [SCALE]
  *

@@ -1,4 +1,4 @@
-/* Plays frame files one after the other, from blank, shows each picture in the terminal, and says how long
+/* Plays frame files of an FLC one after the other, from blank, shows each picture in the terminal, and says how long
  * the frame would be in house form. Usage: show_frames WIDTH HEIGHT FILE.. */
 #include <stdio.h>
 #include <stdlib.h>
@@ -65,10 +65,11 @@ int main(int count, char **words)
     for (int i = 3; i < count; i++) {
         size_t n;
         unsigned char *bytes = whole_file(words[i], &n);
-        flic_written house = flic_rewrite_frame(bytes, n, width, height, picture, sizeof picture, palette, sizeof palette,
-                                                work_picture, sizeof work_picture, work_palette, sizeof work_palette,
-                                                out, sizeof out);
-        flic_answer a = flic_read_frame(bytes, n, width, height, picture, sizeof picture, palette, sizeof palette);
+        flic_written house = flic_rewrite_frame(bytes, n, FLIC_FLC, width, height, picture, sizeof picture, palette,
+                                                sizeof palette, work_picture, sizeof work_picture, work_palette,
+                                                sizeof work_palette, out, sizeof out);
+        flic_answer a = flic_read_frame(bytes, n, FLIC_FLC, width, height, picture, sizeof picture, palette,
+                                        sizeof palette);
         free(bytes);
         if (a.number != 0) {
             printf("%s: refused %u at offset %llu: %s; the picture stays as it was\n", words[i], a.number,

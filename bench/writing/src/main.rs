@@ -1,4 +1,5 @@
-//! Times three encoders on the reels, side by side: the fastest lap of many. Usage: flic-bench-writing REEL..
+//! Times three encoders on the reels, FLC or FLI by their magic, side by side: the fastest lap of many. Usage:
+//! flic-bench-writing REEL..
 
 mod clock;
 mod plain;
@@ -7,7 +8,7 @@ mod search;
 use std::path::Path;
 
 use flic_boundary::Pair;
-use flic_tests::model::{MODEL as INDEPENDENT, PALETTE_BYTES};
+use flic_tests::model::{field, Format, MODEL as INDEPENDENT, PALETTE_BYTES};
 use flic_tests::runner::command::fail;
 
 use crate::clock::seconds;
@@ -20,6 +21,7 @@ const LAPS_TO_ONE: usize = 8;
 
 /// The states of a lap, picture and palette back to back.
 struct Reel {
+    format: Format,
     width: usize,
     height: usize,
     states: Vec<u8>,
@@ -32,7 +34,9 @@ impl Reel {
         };
         let header = read(file);
         let word = |at: usize| u16::from_le_bytes([header[at], header[at + 1]]) as usize;
-        Reel { width: word(8), height: word(10), states: read(&file.with_extension("states")) }
+        let format = if word(field::MAGIC) == usize::from(Format::Fli.magic()) { Format::Fli } else { Format::Flc };
+        let (width, height) = (word(field::WIDTH), word(field::HEIGHT));
+        Reel { format, width, height, states: read(&file.with_extension("states")) }
     }
 
     fn frames(&self) -> usize {
@@ -59,19 +63,21 @@ const MODEL: usize = 2;
 
 impl Encoders {
     fn write(&mut self, encoder: usize, reel: &Reel, i: usize) -> &[u8] {
-        let (width, height, previous, next) = (reel.width, reel.height, reel.shown(i), reel.shown(i + 1));
+        let Reel { format, width, height, .. } = *reel;
+        let (number, previous, next) = (format.number(), reel.shown(i), reel.shown(i + 1));
         if encoder == PLAIN {
-            self.plain.write_frame(width, previous, next, &mut self.grown);
+            self.plain.write_frame(format, width, previous, next, &mut self.grown);
             return &self.grown;
         }
         let length = match encoder {
             OURS => {
-                let written = flic_boundary::write_frame(width as u64, height as u64, previous, next, &mut self.lent);
+                let (width, height, out) = (width as u64, height as u64, &mut self.lent);
+                let written = flic_boundary::write_frame(number, width, height, previous, next, out);
                 assert_eq!(written.number, 0, "flic_write_frame refuses a frame of the benchmark");
                 written.length as usize
             }
             _ => INDEPENDENT
-                .write_frame(width as u64, height as u64, previous, next, &mut self.lent)
+                .write_frame(number, width as u64, height as u64, previous, next, &mut self.lent)
                 .unwrap_or_else(|_| fail("the independent encoder refuses a frame", "run ./test")),
         };
         &self.lent[..length]
@@ -102,9 +108,9 @@ fn main() {
     println!(
         "Writing, microseconds a frame: ours, a plain Rust encoder with the same search, and the independent one of"
     );
-    println!("tests/, which tries every packet at every pixel; then ours over each.");
+    println!("tests/, which tries every packet at every pixel of each different row; then ours over each.");
     println!(
-        "{:<8} {:>9} {:>9} {:>12} {:>8} {:>8} {:>8}",
+        "{:<13} {:>9} {:>9} {:>12} {:>8} {:>8} {:>8}",
         "reel", "ours", "plain", "independent", "/plain", "/indep.", "rounds"
     );
     let mut encoders = Encoders { plain: plain::Encoder::new(), grown: Vec::new(), lent: vec![0; ROOM] };
@@ -112,6 +118,7 @@ fn main() {
         let file = Path::new(&name);
         let reel = Reel::load(file);
         let stem = file.file_stem().unwrap_or_default().to_string_lossy();
+        let stem = if reel.format == Format::Fli { format!("{stem}, FLI") } else { stem.into_owned() };
         encoders.compare(&stem, &reel);
         let (mut least, mut rounds, begin) = ([f64::INFINITY; 3], 0, seconds());
         while rounds < LEAST_ROUNDS || seconds() - begin < REEL_SECONDS {
@@ -121,7 +128,7 @@ fn main() {
             rounds += 1;
         }
         println!(
-            "{stem:<8} {:>9.1} {:>9.1} {:>12.1} {:>8.2} {:>8.2} {rounds:>8}",
+            "{stem:<13} {:>9.1} {:>9.1} {:>12.1} {:>8.2} {:>8.2} {rounds:>8}",
             1e6 * least[OURS],
             1e6 * least[PLAIN],
             1e6 * least[MODEL],

@@ -1,12 +1,22 @@
 //! A plain encoder of the house form with the library's search: each body is written once, into a buffer that grows.
 
 use flic_boundary::Pair;
-use flic_tests::model::{kind, CHUNK_HEADER, FRAME_HEADER, FRAME_TYPE};
+use flic_tests::model::{kind, Format, CHUNK_HEADER, FRAME_HEADER, FRAME_TYPE};
 
 use crate::search::Search;
 
-const MOST_PAIRS: usize = 127;
-const MOST_SKIPPED: usize = 254;
+const MOST_UNITS: usize = 127;
+
+/// What the packets of a delta's row go by: how many pixels are one unit, how many equal units are a repeat, and how many
+/// pixels a packet skips at most.
+struct Packets {
+    unit: usize,
+    least_repeat: usize,
+    most_skipped: usize,
+}
+
+const SS2: Packets = Packets { unit: 2, least_repeat: 2, most_skipped: 254 };
+const LC: Packets = Packets { unit: 1, least_repeat: 3, most_skipped: 255 };
 
 /// The buffers that are kept from frame to frame.
 pub struct Encoder {
@@ -21,7 +31,14 @@ impl Encoder {
     }
 
     /// Writes the house frame and gives its length.
-    pub fn write_frame(&mut self, width: usize, previous: Pair, next: Pair, out: &mut Vec<u8>) -> usize {
+    pub fn write_frame(
+        &mut self,
+        format: Format,
+        width: usize,
+        previous: Pair,
+        next: Pair,
+        out: &mut Vec<u8>,
+    ) -> usize {
         out.clear();
         out.resize(FRAME_HEADER, 0);
         let colours = previous.palette != next.palette;
@@ -30,7 +47,7 @@ impl Encoder {
             push_colours(out, previous.palette, next.palette);
         }
         if pixels {
-            self.push_picture(out, width, previous.picture, next.picture);
+            self.push_picture(out, format, width, previous.picture, next.picture);
         }
         let length = out.len();
         out[..4].copy_from_slice(&(length as u32).to_le_bytes());
@@ -39,8 +56,11 @@ impl Encoder {
         length
     }
 
-    fn push_picture(&mut self, out: &mut Vec<u8>, width: usize, previous: &[u8], next: &[u8]) {
-        self.set_delta(width, previous, next);
+    fn push_picture(&mut self, out: &mut Vec<u8>, format: Format, width: usize, previous: &[u8], next: &[u8]) {
+        let delta_kind = match format {
+            Format::Flc => self.set_ss2(width, previous, next),
+            Format::Fli => self.set_lc(width, previous, next),
+        };
         if next.iter().all(|pixel| *pixel == 0) {
             return push_chunk(out, kind::BLACK, &[]);
         }
@@ -48,7 +68,7 @@ impl Encoder {
         let (full_kind, full): (u16, &[u8]) =
             if self.brun.len() <= next.len() { (kind::BRUN, &self.brun) } else { (kind::COPY, next) };
         if self.delta.len() < full.len() {
-            push_chunk(out, kind::SS2, &self.delta);
+            push_chunk(out, delta_kind, &self.delta);
         } else {
             push_chunk(out, full_kind, full);
         }
@@ -73,7 +93,7 @@ impl Encoder {
         }
     }
 
-    fn set_delta(&mut self, width: usize, previous: &[u8], next: &[u8]) {
+    fn set_ss2(&mut self, width: usize, previous: &[u8], next: &[u8]) -> u16 {
         self.delta.clear();
         self.delta.extend([0; 2]);
         let (mut lines, mut gap) = (0u16, 0u16);
@@ -90,6 +110,32 @@ impl Encoder {
             gap = 0;
         }
         self.delta[..2].copy_from_slice(&lines.to_le_bytes());
+        kind::SS2
+    }
+
+    fn set_lc(&mut self, width: usize, previous: &[u8], next: &[u8]) -> u16 {
+        self.delta.clear();
+        self.delta.extend([0; 4]);
+        let (mut first, mut rows, mut end) = (0u16, 0u16, self.delta.len());
+        for (row, (old, new)) in (0u16..).zip(previous.chunks_exact(width).zip(next.chunks_exact(width))) {
+            let changed = old != new;
+            if end == 4 && !changed {
+                continue;
+            }
+            if end == 4 {
+                first = row;
+            }
+            let count_at = self.delta.len();
+            self.delta.push(0);
+            if changed {
+                self.delta[count_at] = push_packets(&mut self.delta, &LC, old, new) as u8;
+                (rows, end) = (row + 1 - first, self.delta.len());
+            }
+        }
+        self.delta.truncate(end);
+        self.delta[..2].copy_from_slice(&first.to_le_bytes());
+        self.delta[2..4].copy_from_slice(&rows.to_le_bytes());
+        kind::LC
     }
 }
 
@@ -118,52 +164,65 @@ fn push_colours(out: &mut Vec<u8>, previous: &[u8], next: &[u8]) {
 }
 
 fn push_line(out: &mut Vec<u8>, old: &[u8], new: &[u8]) {
-    let (pairs, last) = (new.len() / 2, new.len() - 1);
-    let same = |at: usize| old[2 * at..][..2] == new[2 * at..][..2];
+    let last = new.len() - 1;
     if new.len() % 2 == 1 && old[last] != new[last] {
         out.extend([new[last], 0x80]);
     }
     let count_at = out.len();
     out.extend([0; 2]);
+    let packets = push_packets(out, &SS2, old, new);
+    out[count_at..count_at + 2].copy_from_slice(&(packets as u16).to_le_bytes());
+}
+
+/// Pushes the packets of a row, and gives how many they are.
+#[inline(always)]
+fn push_packets(out: &mut Vec<u8>, form: &Packets, old: &[u8], new: &[u8]) -> usize {
+    let (unit, units) = (form.unit, new.len() / form.unit);
+    let same = |at: usize| old[unit * at..][..unit] == new[unit * at..][..unit];
     let (mut at, mut shown, mut packets) = (0, 0, 0);
-    while at < pairs {
+    while at < units {
         if same(at) {
             at += 1;
             continue;
         }
-        let after = (at..pairs).find(|i| same(*i)).unwrap_or(pairs);
-        packets += push_stretch(out, 2 * (at - shown), &new[2 * at..2 * after]);
+        let after = (at..units).find(|i| same(*i)).unwrap_or(units);
+        packets += push_stretch(out, form, unit * (at - shown), &new[unit * at..unit * after]);
         (at, shown) = (after, after);
     }
-    out[count_at..count_at + 2].copy_from_slice(&(packets as u16).to_le_bytes());
+    packets
 }
 
-/// Pushes the packets of a stretch of changed pairs that stands after `gap` pixels, and gives how many they are.
-fn push_stretch(out: &mut Vec<u8>, mut gap: usize, mut pixels: &[u8]) -> usize {
+/// Pushes the packets of a stretch of changed units that stands after `gap` pixels, and gives how many they are.
+#[inline(always)]
+fn push_stretch(out: &mut Vec<u8>, form: &Packets, mut gap: usize, mut pixels: &[u8]) -> usize {
     let mut packets = 0;
-    while gap > MOST_SKIPPED {
-        out.extend([MOST_SKIPPED as u8, 0]);
-        gap -= MOST_SKIPPED;
+    while gap > form.most_skipped {
+        out.extend([form.most_skipped as u8, 0]);
+        gap -= form.most_skipped;
         packets += 1;
     }
     while !pixels.is_empty() {
-        let equal = equal_pairs(pixels);
-        let (taken, kind, data) = if equal > 1 { (equal, (256 - equal) as u8, 2) } else { copied(pixels) };
+        let equal = equal_units(form.unit, pixels);
+        let repeats = equal >= form.least_repeat;
+        let (taken, kind, data) = if repeats { (equal, (256 - equal) as u8, form.unit) } else { copied(form, pixels) };
         out.extend([gap as u8, kind]);
         out.extend_from_slice(&pixels[..data]);
-        pixels = &pixels[2 * taken..];
+        pixels = &pixels[form.unit * taken..];
         gap = 0;
         packets += 1;
     }
     packets
 }
 
-fn equal_pairs(pixels: &[u8]) -> usize {
-    pixels.chunks_exact(2).take(MOST_PAIRS).take_while(|pair| *pair == &pixels[..2]).count()
+fn equal_units(unit: usize, pixels: &[u8]) -> usize {
+    pixels.chunks_exact(unit).take(MOST_UNITS).take_while(|one| *one == &pixels[..unit]).count()
 }
 
-fn copied(pixels: &[u8]) -> (usize, u8, usize) {
-    let repeat = pixels.windows(4).step_by(2).position(|two| two[..2] == two[2..]);
-    let pairs = repeat.unwrap_or(pixels.len() / 2).min(MOST_PAIRS);
-    (pairs, pairs as u8, 2 * pairs)
+/// How many units are copied up to the next repeat, as a type byte too, and as bytes.
+fn copied(form: &Packets, pixels: &[u8]) -> (usize, u8, usize) {
+    let Packets { unit, least_repeat, .. } = *form;
+    let is_repeat = |next: &[u8]| next[unit..] == next[..next.len() - unit];
+    let repeat = pixels.windows(least_repeat * unit).step_by(unit).position(is_repeat);
+    let units = repeat.unwrap_or(pixels.len() / unit).min(MOST_UNITS);
+    (units, units as u8, unit * units)
 }
