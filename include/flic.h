@@ -18,7 +18,7 @@ extern "C" {
 #define FLIC_VERSION_NUMBER 200
 
 /* The format of a frame or a reel: FLC (Animator Pro), or FLI (the original Animator), which the boards of 320 by 200
- * take. As a parameter any number but 0 is FLI; in an answer it is one of these two. */
+ * take. As a parameter any number but 0 is FLI; a call that is done gives one of these two. */
 #define FLIC_FLC 0
 #define FLIC_FLI 1
 
