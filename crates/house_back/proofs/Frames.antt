@@ -14,7 +14,8 @@ use Rattle.format.specs.Format.{FRAME-TYPE}
 use Rattle.format.specs.declared.Size.{Size}
 use Rattle.walk.specs.declared.Verdict.{Verdict}
 use Rattle.answer.specs.declared.Answer.the-variants.{Done}
-use Rattle.read_frame.specs.Frame.{ChunkWalk, FrameWalk, stop, answerAfter, writesAfter, chunkThen, subChunk, subChunks, frame}
+use Rattle.read_chunk.specs.Chunk.{ChunkWalk, subChunk}
+use Rattle.read_frame.specs.Frame.{FrameWalk, stop, answerAfter, writesAfter, chunkThen, subChunks, frame}
 use Rattle.chunks.specs.Headers.{headerAt, frameHeader}
 use Rattle.chunks.specs.declared.FrameHeader.the-variants.{Frame}
 use Rattle.chunks.specs.declared.Header.the-variants.{Chunk}

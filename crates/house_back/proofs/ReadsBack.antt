@@ -26,11 +26,12 @@ use Rattle.read_colour.specs.Colour.{colour}
 use Rattle.read_colour.specs.declared.Levels.the-variants.{Of256}
 use Rattle.read_full.specs.Full.{black, copied}
 use Rattle.read_brun.specs.Brun.{brun}
-use Rattle.read_frame.specs.Frame.{ChunkWalk, judged, onPicture, onPalette, byKind, kindOk, subChunk, frame}
+use Rattle.read_chunk.specs.Chunk.{ChunkWalk, judged, onPicture, onPalette, byKind, kindOk, subChunk}
+use Rattle.read_frame.specs.Frame.{frame}
 use Rattle.read_frame.specs.Reading.{played}
 use Rattle.walk.specs.declared.Verdict.{Verdict}
 use Rattle.walk.specs.declared.Verdict.the-variants.{Ends}
-use Rattle.read_frame.proofs.Laws.{judged-right, chunk-by}
+use Rattle.read_chunk.proofs.Laws.{judged-right, chunk-by}
 use Rattle.read_frame.proofs.Sound.{frame-sound, played-exact}
 use Rattle.house_colour.specs.Colours.{colourBody}
 use Rattle.house_colour.proofs.ReadsBack.{colour-reads-back, colour-short}

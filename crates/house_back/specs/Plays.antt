@@ -8,7 +8,8 @@ use Rattle.format.specs.declared.Size.{Size}
 use Rattle.state.specs.State.{State, Exact}
 use Rattle.walk.specs.declared.Verdict.the-variants.{Ends}
 use Rattle.answer.specs.declared.Answer.the-variants.{Done}
-use Rattle.read_frame.specs.Frame.{ChunkWalk, FrameWalk}
+use Rattle.read_chunk.specs.Chunk.{ChunkWalk}
+use Rattle.read_frame.specs.Frame.{FrameWalk}
 
 -- a sub-chunk with no fault that turns the picture p and the palette q into p′ and q′
 pub record Acts (c : ChunkWalk) (p q p′ q′ : List ℕ) : Type 0 where

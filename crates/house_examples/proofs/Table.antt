@@ -10,7 +10,7 @@ use Rattle.read_full.specs.Full.{black, copied}
 use Rattle.read_brun.specs.Brun as brun′
 use Rattle.read_lc.specs.Lc as lc′
 use Rattle.read_ss2.specs.Ss2 as ss2′
-use Rattle.read_frame.specs.Frame.{byKind, subChunk}
+use Rattle.read_chunk.specs.Chunk.{byKind, subChunk}
 use Rattle.house_least.specs.Least.{best, table, chosen, choose, better, via}
 use Rattle.house_rows.specs.Row.{houseBytes, bytes, house, allowed, down, equal}
 use Rattle.house_full.specs.Full.{brunRow, brunBody, allZero, shorter, fullChunk}

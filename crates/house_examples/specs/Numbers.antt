@@ -14,7 +14,7 @@ use Rattle.format.specs.declared.Format.{Format}
 use Rattle.format.specs.declared.Format.the-variants.{Flc, Fli}
 use Rattle.walk.specs.declared.Verdict.{Verdict}
 use Rattle.walk.specs.declared.Verdict.the-variants.{Ends, Fault}
-use Rattle.read_frame.specs.Frame.{subChunk}
+use Rattle.read_chunk.specs.Chunk.{subChunk}
 use Rattle.house_rows.specs.Row.{houseBytes}
 use Rattle.house_delta.specs.Delta.{deltaBody}
 use Rattle.house_frame.specs.House.{houseFrame}

@@ -30,7 +30,8 @@ use Rattle.house_colour.proofs.ReadsBack.{colour-short}
 use Rattle.house_full.specs.Full.{fullChunk}
 use Rattle.house_full.proofs.FullLeast.{FullLeast, full-least}
 use Rattle.walk.specs.declared.Verdict.the-variants.{Ends}
-use Rattle.read_frame.specs.Frame.{ChunkWalk, FrameWalk, subChunk, frame}
+use Rattle.read_chunk.specs.Chunk.{ChunkWalk, subChunk}
+use Rattle.read_frame.specs.Frame.{FrameWalk, frame}
 use Rattle.read_frame.specs.Reading.{played, readBy, readFrame}
 use Rattle.read_frame.proofs.Laws.{read-by}
 use Rattle.read_frame.proofs.Sound.{played-exact}
@@ -40,7 +41,7 @@ use Rattle.house_back.specs.Plays.{Plays, ByteState}
 use Rattle.house_back.proofs.Frames.{framed-field}
 use Rattle.read_full.specs.Full.{black, copied}
 use Rattle.read_brun.specs.Brun.{brun}
-use Rattle.read_frame.proofs.Laws.{judged-ends}
+use Rattle.read_chunk.proofs.Laws.{judged-ends}
 use Rattle.house_back.proofs.ReadsBack.{played-bytes, Good, good-picture, black-walk, brun-walk, copy-walk, house-small, subs-small, house-reads-back}
 use Rattle.house_rewrite.proofs.Subs.{same-first, Described, none, more, framed-described, Single, frame-single}
 use Rattle.house_rewrite.specs.Rewriting.{rewrote, rewriteFrame}

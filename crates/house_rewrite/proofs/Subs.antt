@@ -20,7 +20,8 @@ use Rattle.chunks.specs.declared.FrameHeader.the-variants as whole
 use Rattle.chunks.specs.declared.Header.the-variants.{Chunk}
 use Rattle.chunks.proofs.Headers.{header-in}
 use Rattle.chunks.proofs.Spans.{subs-none, subs-step, subs-by}
-use Rattle.read_frame.specs.Frame.{FrameWalk, answerAfter, writesAfter, chunkThen, acted, subChunk, subChunks, afterFrameHeader, frame}
+use Rattle.read_chunk.specs.Chunk.{subChunk}
+use Rattle.read_frame.specs.Frame.{FrameWalk, answerAfter, writesAfter, chunkThen, acted, subChunks, afterFrameHeader, frame}
 use Rattle.format.specs.declared.Size.{Size}
 use Rattle.house_frame.specs.House.{framed}
 use Rattle.house_back.proofs.Frames.{chunk-there, more-there, framed-header, framed-subs}

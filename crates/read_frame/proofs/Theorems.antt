@@ -26,7 +26,8 @@ use Rattle.chunks.specs.Headers.{frameHeader}
 use Rattle.chunks.specs.declared.FrameHeader.{FrameHeader}
 use Rattle.chunks.specs.declared.FrameHeader.the-variants as whole
 use Rattle.chunks.proofs.Headers.{header-in, FrameIn, frame-in}
-use Rattle.read_frame.specs.Frame.{FrameWalk, subChunk, answerAfter, subChunks, afterFrameHeader, frame}
+use Rattle.read_chunk.specs.Chunk.{subChunk}
+use Rattle.read_frame.specs.Frame.{FrameWalk, answerAfter, subChunks, afterFrameHeader, frame}
 use Rattle.read_frame.proofs.Laws.{chunks-by}
 use Rattle.words.specs.Words.{require_else_then_, Bytes}
 use Rattle.words.proofs.Laws.{bytes-take, bytes-drop}

@@ -4,10 +4,10 @@ use mathlib.Core.Bool.{true, false}
 use borrow.Author.Tests.{not-true, not-false}
 use borrow.Author.Needs.{needs}
 use Rattle.walk.specs.Walk.{wrote}
-use Rattle.read_frame.specs.Frame.{ChunkWalk}
-use Rattle.read_frame.proofs.Laws.{chunk-by, no-write}
-use Rattle.read_frame.proofs.walk_chunk.Statement.{statement}
-use Rattle.read_frame.proofs.walk_chunk.Tie as tie
+use Rattle.read_chunk.specs.Chunk.{ChunkWalk}
+use Rattle.read_chunk.proofs.Laws.{chunk-by, no-write}
+use Rattle.read_chunk.proofs.walk_chunk.Statement.{statement}
+use Rattle.read_chunk.proofs.walk_chunk.Tie as tie
 
 returns : tie.Need-returns
 returns c =

@@ -1,11 +1,11 @@
 -- `judge` meets its contract: the tests are the definition's, with no sum that could wrap.
-use Rattle.read_frame.proofs.Laws.{judged-spare, judged-right}
-use Rattle.read_frame.specs.Frame.{judged}
+use Rattle.read_chunk.proofs.Laws.{judged-spare, judged-right}
+use Rattle.read_chunk.specs.Chunk.{judged}
 use native.Mathlib.Omega.{arith}
 use mathlib.Core.Path.{sym, ap, _∙_}
 use borrow.Author.Needs.{needs}
-use Rattle.read_frame.proofs.judge.Statement.{statement}
-use Rattle.read_frame.proofs.judge.Tie as tie
+use Rattle.read_chunk.proofs.judge.Statement.{statement}
+use Rattle.read_chunk.proofs.judge.Tie as tie
 
 returns : tie.Need-returns
 returns c = sym (ap (judged (c .before .before .before .before .before .args .size)) (c .before .before .before .verdict2 .given .1) ∙ judged-spare (c .before .before .before .before .before .args .size) _ (omega (arith, c .before .if1 .taken, c .if2 .taken)))

@@ -9,10 +9,10 @@ use Rattle.read_full.specs.Full.{black, copied}
 use Rattle.read_brun.specs.Brun.{brun}
 use Rattle.read_lc.specs.Lc.{lc}
 use Rattle.read_ss2.specs.Ss2.{ss2}
-use Rattle.read_frame.specs.Frame.{judged, byKind}
-use Rattle.read_frame.proofs.Laws.{kind-is, kind-other, on-picture, on-palette, no-write}
-use Rattle.read_frame.proofs.walk_kind.Statement.{statement}
-use Rattle.read_frame.proofs.walk_kind.Tie as tie
+use Rattle.read_chunk.specs.Chunk.{judged, byKind}
+use Rattle.read_chunk.proofs.Laws.{kind-is, kind-other, on-picture, on-palette, no-write}
+use Rattle.read_chunk.proofs.walk_kind.Statement.{statement}
+use Rattle.read_chunk.proofs.walk_kind.Tie as tie
 
 returns : tie.Need-returns
 unfolding byKind

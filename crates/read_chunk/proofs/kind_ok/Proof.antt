@@ -1,8 +1,8 @@
 -- `kind_ok` meets its contract: at each format the definition computes to its test.
 use borrow.Author.Needs.{needs}
 use borrow.Author.Tests.{ne-eqb, eq-eqb}
-use Rattle.read_frame.proofs.kind_ok.Statement.{statement}
-use Rattle.read_frame.proofs.kind_ok.Tie as tie
+use Rattle.read_chunk.proofs.kind_ok.Statement.{statement}
+use Rattle.read_chunk.proofs.kind_ok.Tie as tie
 
 returns : tie.Need-returns
 returns c = simp (c .before .enum-told2 .given .1, eq-eqb (c .before .before .before .args .kind) 7 (c .if1 .taken))
