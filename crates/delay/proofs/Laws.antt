@@ -1,9 +1,9 @@
 -- "so jiffies to milliseconds and back is unchanged" (document 02, Req 06), of all that a header's two bytes can hold.
 use mathlib.Core.Path.{_≡_, ap}
-use Prim.Native.Nat.{ℕ, _≤_, _+_, _*_, _/_}
+use Prim.Native.Nat.{ℕ, _+_, _*_, _/_}
 use native.Mathlib.Omega.{arith}
 use borrow.Author.Tests.{le-leb}
-use Rattle.delay.specs.Delay.{jiffies, inMilliseconds, inJiffies}
+use Rattle.delay.specs.Delay.{jiffies}
 use Rattle.delay.specs.Kept.{JiffiesKept}
 use Rattle.delay.specs.declared.Converted.the-variants.{Fits}
 

@@ -14,7 +14,7 @@ use Rattle.words.specs.Writes.{applied}
 use Rattle.words.proofs.Laws.{length-chunk, same-eq}
 use Rattle.words.proofs.Tests.{by-test}
 use Rattle.words.proofs.Bytewise.{bytes-applied}
-use Rattle.state.specs.State.{State, Picture, Exact}
+use Rattle.state.specs.State.{State, Picture}
 use Rattle.format.specs.Limits.{area}
 use Rattle.format.specs.declared.Format.{Format}
 use Rattle.format.specs.declared.Format.the-variants.{Flc, Fli}

@@ -1,5 +1,4 @@
 -- `format_from` meets its contract: a number that isn't 0 is that of an FLI.
-use mathlib.Core.Path.{refl}
 use borrow.Author.Needs.{needs}
 use Rattle.format.proofs.Laws.{from-some}
 use Rattle.format.proofs.format_from.Statement.{statement}
