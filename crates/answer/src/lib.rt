@@ -1,9 +1,11 @@
 // What a call answers: done, or one of document 01's refusals with a place.
+#![tactic(auto)]
+
 ghost use Rattle.std.specs.Prelude.{◌≡◌};
 ghost use Rattle.answer.specs.Answer.{number};
 
 // The refusals, in the order of their numbers (document 01, "Refusal numbers").
-#[derive(Drop)]
+#[derive(Clone, Copy)]
 pub enum Refusal {
     // 1: a picture slice is shorter than width times height, or a palette slice than 768
     ShortSlice,
@@ -48,14 +50,14 @@ pub enum Refusal {
 }
 
 // Done, or a refusal with its place.
-#[derive(Drop)]
+#[derive(Clone, Copy)]
 pub enum Answer {
     Done,
     Refused(Refusal, usize),
 }
 
 // Done with so many bytes written, or a refusal with its place.
-#[derive(Drop)]
+#[derive(Clone, Copy)]
 pub enum Written {
     Done(usize),
     Refused(Refusal, usize),

@@ -1,5 +1,7 @@
 // A board's clock: which frame stands after each reading of a millisecond counter that rolls over, and the replay of a list of readings
 // (document 02, Req 01).
+#![tactic(auto)]
+
 ghost use Rattle.std.specs.Prelude.{◌≡◌, suc, ◌%◌, ◌^◌, ◌≤◌, length, ◌==◌};
 ghost use Rattle.words.specs.Writes.{put};
 ghost use Rattle.answer.specs.Answer.{told_written};
@@ -14,7 +16,7 @@ use answer::{Refusal, Written};
 const HALF_RANGE: u32 = 2147483648;
 
 // What a reading brings: nothing yet, a frame, or that the clock was set back.
-#[derive(Drop)]
+#[derive(Clone, Copy)]
 pub enum Due {
     Nothing,
     Frame,
@@ -22,14 +24,14 @@ pub enum Due {
 }
 
 // The number of the frame that stands, and the last draw time.
-#[derive(Drop)]
+#[derive(Clone, Copy)]
 pub struct Stands {
     pub number: usize,
     pub last: u32,
 }
 
 // What a reading brought, and what stands then.
-#[derive(Drop)]
+#[derive(Clone, Copy)]
 pub struct Turn {
     pub due: Due,
     pub stands: Stands,

@@ -1,4 +1,6 @@
 // A player that keeps time: started on a whole reel, it draws a frame at each tick that is due (document 02, Req 01).
+#![tactic(auto)]
+
 ghost use Rattle.std.specs.Prelude.{◌≡◌};
 ghost use Rattle.answer.specs.Answer.{told};
 ghost use Rattle.state.specs.State.{state};
@@ -19,7 +21,7 @@ use reel_play::Ran;
 // What a player carries from tick to tick: the reel's size and frames, the number of the frame that stands, the place where the next one is looked for,
 // where frame 1 ends, the speed, the last draw time, and the format as a number (format::format_from). A caller may hand in any values.
 #[repr(C)]
-#[derive(Drop)]
+#[derive(Clone, Copy)]
 pub struct Player {
     pub width: usize,
     pub height: usize,
@@ -33,7 +35,7 @@ pub struct Player {
 }
 
 // What a tick answers: nothing was due, a frame was drawn, the clock was set back, or a refusal with its place.
-#[derive(Drop)]
+#[derive(Clone, Copy)]
 pub enum Ticked {
     Nothing,
     Drawn,
@@ -42,14 +44,14 @@ pub enum Ticked {
 }
 
 // A tick's answer, and the player after it.
-#[derive(Drop)]
+#[derive(Clone, Copy)]
 pub struct Stepped {
     pub ticked: Ticked,
     pub player: Player,
 }
 
 // An answer, and the player that was started: all 0 where refused.
-#[derive(Drop)]
+#[derive(Clone, Copy)]
 pub struct Started {
     pub answer: Answer,
     pub player: Player,

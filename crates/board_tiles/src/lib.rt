@@ -1,4 +1,6 @@
 // Which tiles a panel has to redraw (document 02, Req 07): a word of marks for each row of tiles, and the number, the first and the last of its marks.
+#![tactic(auto)]
+
 ghost use Rattle.std.specs.Prelude.{◌≡◌, ◌||◌, ◌+◌, ◌*◌, ◌≤◌, ◌<◌, length, get_or};
 ghost use Rattle.words.specs.Writes.{put};
 ghost use Rattle.answer.specs.Answer.{told_written};
@@ -19,7 +21,7 @@ const COLUMNS: usize = 512;
 
 // How many tiles of a row are marked, the first and the last; 64 for both where none is.
 #[repr(C)]
-#[derive(Drop)]
+#[derive(Clone, Copy)]
 pub struct TileRow {
     pub count: u32,
     pub first: u32,

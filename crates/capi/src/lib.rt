@@ -1,4 +1,6 @@
 // The entry points for C (include/flic.h), and nothing else: numbers, slices and plain structs. A slice is a pointer and then a length.
+#![tactic(auto)]
+
 ghost use Rattle.std.specs.Prelude.{◌≡◌};
 ghost use Rattle.format.specs.Limits.{size_of, format_from};
 ghost use Rattle.delay.specs.Delay.{milliseconds, in_jiffies};
@@ -36,7 +38,7 @@ use reel_header::{Head, Takes};
 
 // Number 0: done. Otherwise the refusal's number and place.
 #[repr(C)]
-#[derive(Drop)]
+#[derive(Clone, Copy)]
 pub struct Answered {
     pub number: u32,
     pub place: u64,
@@ -44,7 +46,7 @@ pub struct Answered {
 
 // A reel from call to call. Closed: any number but 0; format: 0 FLC, any other number FLI.
 #[repr(C)]
-#[derive(Drop)]
+#[derive(Clone, Copy)]
 pub struct Record {
     pub width: u64,
     pub height: u64,
@@ -56,7 +58,7 @@ pub struct Record {
 
 // An answer with the reel as it is after the call: where refused, as it was handed in.
 #[repr(C)]
-#[derive(Drop)]
+#[derive(Clone, Copy)]
 pub struct Recorded {
     pub number: u32,
     pub place: u64,
@@ -65,7 +67,7 @@ pub struct Recorded {
 
 // The same with how many bytes were written, 0 where refused.
 #[repr(C)]
-#[derive(Drop)]
+#[derive(Clone, Copy)]
 pub struct Delivered {
     pub number: u32,
     pub place: u64,
@@ -74,7 +76,7 @@ pub struct Delivered {
 
 // A reel's header, its speed in milliseconds: all fields are 0 where refused.
 #[repr(C)]
-#[derive(Drop)]
+#[derive(Clone, Copy)]
 pub struct ReelHeader {
     pub number: u32,
     pub place: u64,
@@ -88,7 +90,7 @@ pub struct ReelHeader {
 
 // Where a frame begins and ends: both 0 where refused.
 #[repr(C)]
-#[derive(Drop)]
+#[derive(Clone, Copy)]
 pub struct FrameSpan {
     pub number: u32,
     pub place: u64,
@@ -98,7 +100,7 @@ pub struct FrameSpan {
 
 // A delay in the other unit: 0 where refused.
 #[repr(C)]
-#[derive(Drop)]
+#[derive(Clone, Copy)]
 pub struct DelayAnswer {
     pub number: u32,
     pub place: u64,
@@ -107,7 +109,7 @@ pub struct DelayAnswer {
 
 // What a row's least packets cost: their bytes, and the turns of the search for them; both 0 where refused.
 #[repr(C)]
-#[derive(Drop)]
+#[derive(Clone, Copy)]
 pub struct RowFigures {
     pub number: u32,
     pub place: u64,
@@ -117,7 +119,7 @@ pub struct RowFigures {
 
 // An answer with the player that was started: all its fields are 0 where refused.
 #[repr(C)]
-#[derive(Drop)]
+#[derive(Clone, Copy)]
 pub struct PlayerAnswer {
     pub number: u32,
     pub place: u64,
@@ -126,7 +128,7 @@ pub struct PlayerAnswer {
 
 // A tick's answer. Event 0: nothing was due, 1: a frame was drawn, 2: the clock was set back; 0 where refused.
 #[repr(C)]
-#[derive(Drop)]
+#[derive(Clone, Copy)]
 pub struct TickAnswer {
     pub number: u32,
     pub place: u64,

@@ -1,5 +1,7 @@
 // Chunks and where they lie: a chunk's header, a frame's header, and the walk over the top-level chunks of a reel.
 // Document 01, "Frames, chunks and rows" and "Reels and the trailer".
+#![tactic(auto)]
+
 ghost use Rattle.std.specs.Prelude.{◌≡◌, ◌≤◌, length};
 ghost use Rattle.chunks.specs.Headers.{header_at, frame_header};
 ghost use Rattle.chunks.specs.declared.Layout.TheVariants.{Loose, Packed};
@@ -22,35 +24,35 @@ pub const COUNT_AT: usize = 6;
 pub const HEADER_BYTES: usize = 128;
 
 // A chunk's header: its first fault, or its kind and the offset of its end.
-#[derive(Drop)]
+#[derive(Clone, Copy)]
 pub enum Header {
     Fault(Refusal),
     Chunk { kind: usize, end: usize },
 }
 
 // A frame's header: its first fault, or how many sub-chunks it has and its size.
-#[derive(Drop)]
+#[derive(Clone, Copy)]
 pub enum FrameHeader {
     Fault(Refusal),
     Frame { count: usize, size: usize },
 }
 
 // How frames lie: in a file other chunks may stand between them, in a reel being closed they lie back to back.
-#[derive(Drop)]
+#[derive(Clone, Copy)]
 pub enum Layout {
     Loose,
     Packed,
 }
 
 // The next frame: the first fault with its place, or where the frame begins and ends.
-#[derive(Drop)]
+#[derive(Clone, Copy)]
 pub enum Next {
     Fault(Refusal, usize),
     Frame { from: usize, end: usize },
 }
 
 // How far a walk over frames went: the first fault with its place, or where the last frame ends.
-#[derive(Drop)]
+#[derive(Clone, Copy)]
 pub enum Extent {
     Fault(Refusal, usize),
     End(usize),

@@ -1,19 +1,21 @@
 // Delays from frame to frame: an FLI's header has jiffies of 1/70 second, an FLC's and a player milliseconds (document 02, Req 06). The
 // two functions below are the only way from one to the other.
+#![tactic(auto)]
+
 ghost use Rattle.std.specs.Prelude.{◌≡◌};
 ghost use Rattle.delay.specs.Delay.{in_milliseconds, in_jiffies};
 
 // As a header's two bytes have them.
-#[derive(Drop)]
+#[derive(Clone, Copy)]
 pub struct Jiffies(pub u16);
 
 // As a player's record has them.
 #[repr(C)]
-#[derive(Drop)]
+#[derive(Clone, Copy)]
 pub struct Milliseconds(pub u32);
 
 // A delay in jiffies, if two bytes hold it.
-#[derive(Drop)]
+#[derive(Clone, Copy)]
 pub enum Converted {
     Fits(Jiffies),
     TooLong,

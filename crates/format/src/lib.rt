@@ -1,5 +1,7 @@
 // The format's numbers: limits of a picture and of a reel, the magic of a file, the types of chunks and the kinds of sub-chunks
 // (document 01, "What the boards need"; document 001).
+#![tactic(auto)]
+
 ghost use Rattle.std.specs.Prelude.{◌≡◌, ◌≤◌};
 ghost use Rattle.format.specs.Limits.{size_ok, size_fits, format_from, format_number};
 ghost use Rattle.format.specs.Format.{max_level, raised};
@@ -59,7 +61,7 @@ pub fn raised_level(x: u8) -> u8
 }
 
 // Which of the two formats a frame or a reel has.
-#[derive(Drop)]
+#[derive(Clone, Copy)]
 pub enum Format {
     Flc,
     Fli,
@@ -86,7 +88,7 @@ pub fn format_number(format: Format) -> u32
 }
 
 // The width and height of a picture and the format of its frames, as a caller gives them.
-#[derive(Drop)]
+#[derive(Clone, Copy)]
 pub struct Size {
     pub width: usize,
     pub height: usize,

@@ -1,18 +1,20 @@
 // Two slices side by side, seen as cells of some bytes each, and their longest stretches of changed cells, one after the other.
+#![tactic(auto)]
+
 ghost use Rattle.std.specs.Prelude.{◌≡◌, ◌∷◌, ◌+◌, ◌*◌, ◌≤◌, ◌<◌, length, take, drop};
 ghost use Rattle.words.specs.Words.{same};
 ghost use Rattle.words.specs.Writes.{put};
 ghost use Rattle.house_cells.specs.Cells.{cells, is_sought, run, Next};
 
 // Which cells are looked for.
-#[derive(Drop)]
+#[derive(Clone, Copy)]
 pub enum Sought {
     Unchanged,
     Changed,
 }
 
 // A stretch of changed cells after a gap of unchanged ones.
-#[derive(Drop)]
+#[derive(Clone, Copy)]
 pub struct Span {
     pub gap: usize,
     pub changed: usize,

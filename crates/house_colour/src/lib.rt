@@ -1,4 +1,6 @@
 // The house form's colour chunk: sized, and written (document 01, "House form of a frame").
+#![tactic(auto)]
+
 ghost use Rattle.std.specs.Prelude.{◌≡◌, ◌+◌, ◌≤◌, length};
 ghost use mathlib.Core.List.{flat_map};
 ghost use Rattle.words.specs.Writes.{put};

@@ -1,4 +1,6 @@
 // The delta of the house form, by the format: kind 7 in an FLC, kind 12 in an FLI (document 01, "House form of a frame", Delta; document 02, Req 06).
+#![tactic(auto)]
+
 ghost use Rattle.std.specs.Prelude.{◌≡◌, ◌+◌, ◌≤◌, length};
 ghost use Rattle.words.specs.Writes.{put};
 ghost use Rattle.state.specs.State.{Picture};

@@ -1,5 +1,7 @@
 // Writing one frame in house form: document 01, "House form of a frame".
 // A first pass measures it and writes nothing, a second writes it. Each row is searched once at most: the first pass notes what the second goes by.
+#![tactic(auto)]
+
 ghost use Rattle.std.specs.Prelude.{◌≡◌, false, ◌+◌, ◌<◌, ◌≤◌, length};
 ghost use mathlib.Core.List.{flatten};
 ghost use Rattle.words.specs.Words.{same};
@@ -20,7 +22,7 @@ use state::holds;
 use words::{put_header, same_bytes};
 
 // A sub-chunk before it is written: how many there are (0 or 1), its kind, its bytes.
-#[derive(Drop)]
+#[derive(Clone, Copy)]
 struct ChunkPlan {
     chunks: usize,
     kind: usize,
@@ -48,7 +50,7 @@ fn measure_colours(previous: &[u8], next: &[u8]) -> ChunkPlan
 }
 
 // The delta's plan, and whether a full chunk may be as short.
-#[derive(Drop)]
+#[derive(Clone, Copy)]
 struct DeltaPlan {
     chunk: ChunkPlan,
     search: bool,

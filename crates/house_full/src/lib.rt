@@ -1,5 +1,7 @@
 // The full picture chunks of the house form, BLACK, BRUN and COPY: which is shortest, its size, its bytes
 // (document 01, "House form of a frame", "Full chunks").
+#![tactic(auto)]
+
 ghost use Rattle.std.specs.Prelude.{◌≡◌, ◌+◌, ◌≤◌, min, ltb, length};
 ghost use Rattle.words.specs.Writes.{put};
 ghost use Rattle.format.specs.Limits.{Wide};
@@ -82,7 +84,7 @@ fn brun_size(plan: &mut [u8], picture: &[u8], width: usize, height: usize) -> us
 }
 
 // A full chunk's kind, and its size, its header included.
-#[derive(Drop)]
+#[derive(Clone, Copy)]
 pub struct FullSize {
     pub kind: usize,
     pub size: usize,

@@ -1,5 +1,7 @@
 // The house form's delta of an FLI: sized, and written (document 02, Req 06).
 // previous and next are two pictures of width by height: as it was, and as it is to be.
+#![tactic(auto)]
+
 ghost use Rattle.std.specs.Prelude.{◌≡◌, ◌+◌, ◌*◌, ◌≤◌, length};
 ghost use mathlib.Core.List.{flat_map};
 ghost use Rattle.words.specs.Writes.{put};
@@ -17,7 +19,7 @@ const LEAST: usize = 3;
 const LONGEST: usize = 255;
 
 // Rows one after the other: the first, and how many.
-#[derive(Drop)]
+#[derive(Clone, Copy)]
 struct Rows {
     first: usize,
     count: usize,

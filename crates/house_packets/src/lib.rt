@@ -1,6 +1,8 @@
 // The packets of a row in a delta of the house form: sized, and stored (document 01, "House form of a frame", Delta).
 // A row is a and b: as it was, and as it is to be. A stretch of changed units is written from b alone.
 // unit, least and longest: how many pixels a unit is, how many equal next units make a repeat, and the longest skip.
+#![tactic(auto)]
+
 ghost use Rattle.std.specs.Prelude.{◌≡◌, ◌+◌, ◌*◌, ◌≤◌, ◌<◌, min, length};
 ghost use Rattle.words.specs.Words.{same};
 ghost use Rattle.words.specs.Writes.{put};
@@ -9,7 +11,7 @@ ghost use Rattle.house_packets.specs.Packets.{bytes, equals, repeats, up_to_repe
 ghost use Rattle.house_packets.specs.Units.{Form, unit_at, units_at, PacketAt, empty_packets, Stores};
 
 // A packet to be stored: how many units it takes, its type, how many bytes of data it has.
-#[derive(Drop)]
+#[derive(Clone, Copy)]
 struct Planned {
     units: usize,
     code: usize,
@@ -17,7 +19,7 @@ struct Planned {
 }
 
 // Packets that are stored: how many, and where they end.
-#[derive(Drop)]
+#[derive(Clone, Copy)]
 pub struct Stored {
     pub count: usize,
     pub end: usize,

@@ -1,4 +1,6 @@
 // Rewriting one frame in house form: document 01, "House form of a frame" and "Refusal numbers".
+#![tactic(auto)]
+
 ghost use Rattle.std.specs.Prelude.{◌≡◌};
 ghost use Rattle.answer.specs.Answer.{told_written};
 ghost use Rattle.state.specs.State.{state, Exact};

@@ -1,4 +1,6 @@
 // The house form's BRUN row: the search for its packets, and its bytes (document 01, "House form of a frame", "Full chunks").
+#![tactic(auto)]
+
 ghost use Rattle.std.specs.Prelude.{◌≡◌, ◌∷◌, ℕ, ◌+◌, ◌-◌, ◌*◌, ◌%◌, ◌<◌, ◌≤◌, min, length, get_or, drop, take};
 ghost use Rattle.words.specs.Writes.{put};
 ghost use Rattle.format.specs.Limits.{max_width, Wide};
@@ -23,7 +25,7 @@ fn wide_sum(x: u16) -> usize
 }
 
 // An end of a copy: a place of the row, and its sum, the place and the least bytes from there on.
-#[derive(Drop)]
+#[derive(Clone, Copy)]
 struct End {
     place: usize,
     sum: usize,
@@ -88,7 +90,7 @@ fn sweep(far: &mut [u32; WIDTH + 1], sums: &[u16; WIDTH + 1], t: usize) -> usize
 }
 
 // The window's split and lowest near end, and the turns that were taken so far.
-#[derive(Drop)]
+#[derive(Clone, Copy)]
 struct Slid {
     split: usize,
     near: End,
@@ -155,7 +157,7 @@ fn copy_end(
 }
 
 // A repeat: how many pixels it writes, and the sum where it ends.
-#[derive(Drop)]
+#[derive(Clone, Copy)]
 struct Repeat {
     run: usize,
     sum: usize,
@@ -193,7 +195,7 @@ fn lengthen(here: u8, next: u8, next_sum: usize, last: Repeat) -> Repeat
 }
 
 // A sum, and the type of the packet that begins what it counts.
-#[derive(Drop)]
+#[derive(Clone, Copy)]
 struct Choice {
     sum: usize,
     code: u8,
@@ -220,7 +222,7 @@ fn choose(i: usize, repeat: Repeat, end: End) -> Choice
 }
 
 // What the search gives back of a row: the size of its packets, the turns taken.
-#[derive(Drop)]
+#[derive(Clone, Copy)]
 pub struct RowPlan {
     pub size: usize,
     pub turns: usize,
@@ -276,7 +278,7 @@ fn row_room() -> [u8; WIDTH]
 }
 
 // What the least packets of a row cost: their bytes, and the turns of the search for them; or the refusal of a row that no picture has.
-#[derive(Drop)]
+#[derive(Clone, Copy)]
 pub enum RowCost {
     Fault(Refusal),
     Cost { bytes: usize, turns: usize },
@@ -316,7 +318,7 @@ fn write_packet(out: &mut [u8], at: usize, row: &[u8], x: usize, t: u8) -> usize
 }
 
 // How a row was written: its packets, and their bytes.
-#[derive(Drop)]
+#[derive(Clone, Copy)]
 pub struct RowWritten {
     pub packets: usize,
     pub size: usize,

@@ -1,5 +1,7 @@
 // The house form's delta: sized, and written (document 01, "House form of a frame", Delta).
 // previous and next are two pictures of width by height; a row is a and b: as it was, and as it is to be.
+#![tactic(auto)]
+
 ghost use Rattle.std.specs.Prelude.{◌≡◌, ◌+◌, ◌*◌, ◌≤◌, length};
 ghost use mathlib.Core.List.{flat_map};
 ghost use Rattle.words.specs.Writes.{put};

@@ -1,4 +1,6 @@
 // The listing of a reel as text: document 01, "Reels and the trailer", third paragraph.
+#![tactic(auto)]
+
 ghost use Rattle.std.specs.Prelude.{◌≡◌, ◌+◌, ◌-◌, ◌≤◌, length};
 ghost use Rattle.answer.specs.Answer.{told_written};
 ghost use Rattle.state.specs.Outcome.{lent_bytes, leaves};

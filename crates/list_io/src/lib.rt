@@ -1,4 +1,6 @@
 // The listing from standard input to standard output. No contract can say which bytes a call of C's reads or writes.
+#![tactic(auto)]
+
 ghost use Rattle.std.specs.Prelude.{◌≡◌, suc, length};
 ghost use Rattle.list_chunks.specs.Listing.{LIST_INPUT};
 ghost use Rattle.list_chunks.specs.Room.{list_most};

@@ -1,4 +1,6 @@
 // Numbers and lines of the listing as text (document 01, "Reels and the trailer", third paragraph).
+#![tactic(auto)]
+
 ghost use Rattle.std.specs.Prelude.{◌+◌, ◌≤◌, length};
 ghost use Rattle.answer.specs.Answer.{number};
 ghost use Rattle.list_text.specs.Text.{decimal, numeral, head_line, chunk_line, ok_line, refused_line};

@@ -1,4 +1,6 @@
 // Reading kind 15, BRUN: document 01, "Frames, chunks and rows".
+#![tactic(auto)]
+
 ghost use Rattle.std.specs.Prelude.{◌≡◌, ◌+◌, ◌*◌, ◌≤◌, length};
 ghost use Rattle.words.specs.Words.{magnitude};
 ghost use Rattle.words.specs.Writes.{put};
@@ -7,7 +9,7 @@ ghost use Rattle.walk.specs.Walk.{stored, wrote, Room};
 ghost use Rattle.read_brun.specs.Brun.{data_bytes, pixels, packet_at, row, brun};
 
 // A packet: a fault, or its type, how many pixels it gives and the offset after its data.
-#[derive(Drop)]
+#[derive(Clone, Copy)]
 pub enum BrunStep {
     Fault(answer::Refusal),
     Pixels { code: u8, count: usize, end: usize },

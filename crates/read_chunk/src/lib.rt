@@ -1,4 +1,6 @@
 // A sub-chunk of a frame, by its kind: document 01, "Frames, chunks and rows"; document 02, Req 05 and Req 06.
+#![tactic(auto)]
+
 ghost use Rattle.std.specs.Prelude.{◌≡◌};
 ghost use Rattle.format.specs.Limits.{area, Sized};
 ghost use Rattle.walk.specs.Walk.{wrote, Room};

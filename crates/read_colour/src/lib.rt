@@ -1,18 +1,20 @@
 // Reading kinds 4 and 11, colour: document 01, "Frames, chunks and rows".
+#![tactic(auto)]
+
 ghost use Rattle.std.specs.Prelude.{◌≡◌, true, map, ◌+◌, ◌≤◌, ◌<◌, length, take, drop};
 ghost use Rattle.format.specs.Format.{raised};
 ghost use Rattle.walk.specs.Walk.{stored, wrote, Room};
 ghost use Rattle.read_colour.specs.Colour.{level, low_levels, levels_ok, count_of, packet_at, colour};
 
 // How many levels a component has: 256 in kind 4, 64 in kind 11.
-#[derive(Drop)]
+#[derive(Clone, Copy)]
 pub enum Levels {
     Of64,
     Of256,
 }
 
 // A packet: its first fault, or len components at from in the body that go to the palette at to, and the next index.
-#[derive(Drop)]
+#[derive(Clone, Copy)]
 pub enum ColourStep {
     Fault(answer::Refusal),
     Colours {

@@ -1,6 +1,8 @@
 // Reading one frame: document 01, "Frames, chunks and rows".
 // A frame with few bytes in packets is read in two passes, a dry one, which is the check, and a wet one, which does the writes. One with
 // many is read in one wet pass, over a picture and palette that were saved: if it is refused, they are put back.
+#![tactic(auto)]
+
 ghost use Rattle.std.specs.Prelude.{◌≡◌, ◌≤◌, length};
 ghost use Rattle.format.specs.Limits.{area, Sized};
 ghost use Rattle.answer.specs.Answer.{told};

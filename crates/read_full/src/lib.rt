@@ -1,4 +1,6 @@
 // Reading kinds 13 (BLACK) and 16 (COPY): document 01, "Frames, chunks and rows". n: the picture's pixels.
+#![tactic(auto)]
+
 ghost use Rattle.std.specs.Prelude.{◌≡◌};
 ghost use Rattle.walk.specs.Walk.{wrote, Room};
 ghost use Rattle.read_full.specs.Full.{black, copied};

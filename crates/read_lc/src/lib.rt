@@ -1,11 +1,13 @@
 // Reading kind 12, LC: document 01, "Frames, chunks and rows".
+#![tactic(auto)]
+
 ghost use Rattle.std.specs.Prelude.{◌≡◌, ◌+◌, ◌*◌, ◌≤◌, length};
 ghost use Rattle.format.specs.Limits.{Wide, High};
 ghost use Rattle.walk.specs.Walk.{wrote, Room};
 ghost use Rattle.read_lc.specs.Lc.{start_at, row_at, lc};
 
 // A row's start: a fault, or the packet count and the offset of the first packet.
-#[derive(Drop)]
+#[derive(Clone, Copy)]
 pub enum Start {
     Fault(answer::Refusal),
     Row { count: usize, from: usize },

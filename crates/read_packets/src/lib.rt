@@ -1,5 +1,7 @@
 // The packets of a delta row, as kinds 7 (SS2) and 12 (LC) have them: document 01, "Frames, chunks and rows".
 // unit: how many pixels a packet counts as one, 1 in LC and 2 in SS2.
+#![tactic(auto)]
+
 ghost use Rattle.std.specs.Prelude.{◌≡◌, [], ◌∷◌, ◌+◌, ◌*◌, ◌≤◌, length, take, drop};
 ghost use Rattle.words.specs.Words.{magnitude};
 ghost use Rattle.words.specs.Writes.{put, applied};
@@ -9,7 +11,7 @@ ghost use Rattle.read_packets.specs.Packets.{repeated, data_bytes, pixels, packe
 ghost use Rattle.read_packets.specs.Pair.{one_pair, pair_at};
 
 // A packet: a fault, or its type, the column where its pixels go, the column after them and the offset after its data.
-#[derive(Drop)]
+#[derive(Clone, Copy)]
 pub enum PacketStep {
     Fault(answer::Refusal),
     Pixels {

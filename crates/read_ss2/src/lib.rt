@@ -1,4 +1,6 @@
 // Reading kind 7, SS2: document 01, "Frames, chunks and rows".
+#![tactic(auto)]
+
 ghost use Rattle.std.specs.Prelude.{◌≡◌, ◌+◌, ◌*◌, ◌≤◌, length};
 ghost use Rattle.words.specs.Words.{u16_at};
 ghost use Rattle.format.specs.Limits.{Wide, High};
@@ -6,7 +8,7 @@ ghost use Rattle.walk.specs.Walk.{ends, wrote, Room};
 ghost use Rattle.read_ss2.specs.Ss2.{word_of, last_at, line_at, last_first, line_walk, ss2};
 
 // What a word is, by its two high bits.
-#[derive(Drop)]
+#[derive(Clone, Copy)]
 pub enum Word {
     Count(usize),
     Bad,
@@ -15,14 +17,14 @@ pub enum Word {
 }
 
 // Whether a line sets the last pixel of its row by a word of its own.
-#[derive(Drop)]
+#[derive(Clone, Copy)]
 pub enum LastPixel {
     Kept,
     Set(u8),
 }
 
 // The word or words at a line: a fault, a skip down, or a row with its packet count and the offset of the first packet.
-#[derive(Drop)]
+#[derive(Clone, Copy)]
 pub enum Line {
     Fault(answer::Refusal),
     Down(usize),

@@ -1,4 +1,6 @@
 // Building a reel in lent bytes: opening it, and adding a frame. Document 01, "Reels and the trailer".
+#![tactic(auto)]
+
 ghost use Rattle.std.specs.Prelude.{◌≡◌, ◌≤◌, length};
 ghost use Rattle.answer.specs.Answer.{told, told_written};
 ghost use Rattle.state.specs.State.{state, Exact};
@@ -17,7 +19,7 @@ use state::holds;
 const MOST_BYTES: usize = 4294967295;
 
 // What a reel carries from call to call. A caller may hand in any values.
-#[derive(Drop)]
+#[derive(Clone, Copy)]
 pub struct Reel {
     pub size: Size,
     pub frames: usize,
@@ -26,7 +28,7 @@ pub struct Reel {
 }
 
 // The answer, and the reel after the call: where an add or a close is refused, the one that was handed in.
-#[derive(Drop)]
+#[derive(Clone, Copy)]
 pub struct Built {
     pub answer: Answer,
     pub reel: Reel,

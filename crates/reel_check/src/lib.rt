@@ -1,4 +1,6 @@
 // The check of a whole reel: document 01, "Reels and the trailer".
+#![tactic(auto)]
+
 ghost use Rattle.std.specs.Prelude.{◌≡◌, ◌&&◌, ◌≤◌, length};
 ghost use Rattle.words.specs.Words.{same};
 ghost use Rattle.answer.specs.Answer.{told};

@@ -1,4 +1,6 @@
 // Closing a reel: it plays its own frames, writes the ring from the state in which that ends, and sets the header. Document 01, "Reels and the trailer".
+#![tactic(auto)]
+
 ghost use Rattle.std.specs.Prelude.{◌≡◌, ◌≤◌, ◌+◌, length};
 ghost use Rattle.format.specs.Limits.{max_frames};
 ghost use Rattle.answer.specs.Answer.{told};

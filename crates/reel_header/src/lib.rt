@@ -1,5 +1,7 @@
 // The 128-byte header of a reel, read, written and closed: document 001, "The FLC file header"; document 01, "Reels and the trailer"; document 02,
 // Req 06.
+#![tactic(auto)]
+
 ghost use Rattle.std.specs.Prelude.{◌≡◌, ◌+◌, ◌<◌, ◌≤◌, length};
 ghost use Rattle.format.specs.Limits.{max_frames};
 ghost use Rattle.chunks.specs.Spans.{HEADER_BYTES};
@@ -51,14 +53,14 @@ const FINISHED_FLI: usize = 0;
 const FLIB: usize = 0x464c4942;
 
 // Which files are taken.
-#[derive(Drop)]
+#[derive(Clone, Copy)]
 pub enum Takes {
     FlcOnly,
     Both,
 }
 
 // A reel's header: its first fault, or the picture's size and the format, the number of frames, the file's size and the delay.
-#[derive(Drop)]
+#[derive(Clone, Copy)]
 pub enum Head {
     Fault(Refusal),
     Reel {

@@ -1,4 +1,6 @@
 // Playing the frames of a reel: document 01, "Reels and the trailer".
+#![tactic(auto)]
+
 ghost use Rattle.std.specs.Prelude.{◌≡◌, ◌≤◌, length};
 ghost use Rattle.format.specs.Limits.{area};
 ghost use Rattle.state.specs.State.{blank, state, Exact};
@@ -10,7 +12,7 @@ use chunks::{HEADER_BYTES, Layout, Next};
 use format::Size;
 
 // What a run of frames came to: the first refusal with its place, or where the last frame begins and ends.
-#[derive(Drop)]
+#[derive(Clone, Copy)]
 pub enum Ran {
     Stopped(Refusal, usize),
     To { last: usize, next: usize },

@@ -1,4 +1,6 @@
 // The index and trailer behind a reel: document 01, "Reels and the trailer", second paragraph.
+#![tactic(auto)]
+
 ghost use Rattle.std.specs.Prelude.{◌≡◌, [], ◌*◌, ◌≤◌, length};
 ghost use Rattle.words.specs.Words.{same};
 ghost use Rattle.words.specs.Writes.{put};

@@ -1,4 +1,6 @@
 // Lent pairs of a picture slice and a palette slice, and room for one of our own.
+#![tactic(auto)]
+
 ghost use Rattle.std.specs.Prelude.{◌≡◌, ◌&&◌, leb, replicate};
 ghost use Rattle.format.specs.Limits.{max_area};
 

@@ -47,9 +47,9 @@ wrote_append Wet xs ys d = applied_append xs ys d
 unfoldable pub seen : Pass → Walk → List ℕ → Verdict × List ℕ
 seen p k d = (k.verdict, wrote p k.writes d)
 
-pub seen_gives : (p : Pass) (k : Walk) (d e : List ℕ) (v : Verdict) → seen p k d ≡ (v, e) → (v ≡ k.verdict) × (e ≡ wrote p k.writes d)
+pub seen_gives : (p : Pass) (k : Walk) (d e : List ℕ) (v : Verdict) → seen p k d ≡ (v, e) → record { verdict : v ≡ k.verdict; writes : e ≡ wrote p k.writes d }
 unfolding seen
-seen_gives p k d e v s = (sym (ap (λ (x : Verdict × List ℕ). x.0) s), sym (ap (λ (x : Verdict × List ℕ). x.1) s))
+seen_gives p k d e v s = record { verdict = sym (ap (λ (x : Verdict × List ℕ). x.0) s); writes = sym (ap (λ (x : Verdict × List ℕ). x.1) s) }
 
 pub seen_none : (p : Pass) (k : Walk) (d : List ℕ) (v : Verdict) → k ≡ record { writes = []; verdict = v } → seen p k d ≡ (v, d)
 unfolding seen

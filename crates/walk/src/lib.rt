@@ -1,14 +1,15 @@
 // What a reader says of a body: how its walk comes out; and what a pass over it does.
+#![tactic(auto)]
 
 // How a walk over a body comes out: the offset where its data ended, or its first fault.
-#[derive(Drop)]
+#[derive(Clone, Copy)]
 pub enum Verdict {
     Ends(usize),
     Fault(answer::Refusal),
 }
 
 // A dry pass over a body writes nothing; a wet one does each write as it meets it, up to the first fault.
-#[derive(Drop)]
+#[derive(Clone, Copy)]
 pub enum Pass {
     Dry,
     Wet,

@@ -1,4 +1,6 @@
 // Little-endian words read and stored, and runs of bytes filled, copied and compared ("All numbers are little-endian", document 01).
+#![tactic(auto)]
+
 ghost use Rattle.std.specs.Prelude.{◌≡◌, [], ◌∷◌, ◌+◌, ◌<◌, ◌≤◌, length, take, drop, replicate};
 ghost use Rattle.words.specs.Words.{magnitude, Word16, Word32, le16, le32, same};
 ghost use Rattle.words.specs.Writes.{put};
@@ -181,7 +183,7 @@ pub fn same_bytes(a: &[u8], b: &[u8]) -> bool
     requires { length a.now ≡ length b.now }
     ensures { result ≡ same a.now b.now }
 {
-    let mut other = 0;
+    let mut other: u32 = 0;
     let mut i = 0;
     while i < a.len() {
         if a[i] != b[i] {

@@ -1,0 +1,10 @@
+-- `store_numbers` meets its contract: each turn stores the number that stands after one reading more.
+use Rattle.std.proofs.Common.{suc, ◌-◌, ◌≤◌, length, refl, arith}
+use Rattle.board_clock.proofs.Numbers.{Storing, storing_first, stored_small, storing_again, storing_done}
+use Rattle.board_clock.proofs.store_numbers.Given as goal
+
+abbrev pub invariant-loop-i : goal.invariant-loop-i
+invariant-loop-i l = Storing l.initial.out l.readings l.frames l.speed l.start l.out l.number l.last l.i
+
+abbrev pub decreases-loop-i : goal.decreases-loop-i
+decreases-loop-i l = length l.readings - l.i

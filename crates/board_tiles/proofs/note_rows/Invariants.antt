@@ -1,0 +1,17 @@
+-- `note_rows` meets its contract: nothing is noted at first, and each turn notes one row more.
+use native.Mathlib.Omega.{arith}
+use mathlib.Core.Path.{refl, ◌∙◌}
+use mathlib.Core.List.{◌++◌}
+use lib.ListN.{drop}
+use Prim.Native.Nat.{◌+◌, ◌-◌}
+use borrow.Author.Rules.{rules}
+use Rattle.board_tiles.specs.Tiles.{any}
+use Rattle.board_tiles.specs.Noted.{below, Noted}
+use Rattle.board_tiles.proofs.Noting.{Rows, cleared, rows_first, rows_fit, rows_again, rows_done}
+use Rattle.board_tiles.proofs.note_rows.Given as goal
+
+abbrev pub invariant-loop-y : goal.invariant-loop-y
+invariant-loop-y l = Rows l.initial.marks l.previous l.next l.at l.width l.high l.marks l.from l.y
+
+abbrev pub decreases-loop-y : goal.decreases-loop-y
+decreases-loop-y l = l.high - l.y

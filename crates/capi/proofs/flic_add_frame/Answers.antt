@@ -1,0 +1,15 @@
+-- `flic_add_frame` meets its contract: it hands on what `add_frame` answers to the reel that the record stands for.
+use mathlib.Core.Path.{ap, ◌∙◌}
+use Rattle.state.specs.State.{state}
+use Rattle.reel_build.specs.declared.Reel.{Reel}
+use Rattle.reel_build.specs.Building.{add_frame}
+use borrow.Author.Rules.{rules}
+use Rattle.capi.proofs.Laws.{held_reel}
+use Rattle.capi.proofs.flic_add_frame.Goals as goal
+
+pub returns : goal.returns
+returns c =
+    let here = c in
+    let made = here in
+    let a = made.args in
+    held_reel c.built_for_c.ensures.0 (here.add_frame-a.ensures ∙ ap (λ (r : Reel). add_frame r a.bytes.now (state a.shown-picture.now a.shown-palette.now) (state a.next-picture.now a.next-palette.now)) made.reel_from_c.ensures) c.built_for_c.ensures.1

@@ -1,0 +1,7 @@
+-- `flic_check_reel` meets its contract: it hands on what `check_reel` answers.
+use borrow.Author.Rules.{rules}
+use Rattle.capi.proofs.Laws.{held}
+use Rattle.capi.proofs.flic_check_reel.Goals as goal
+
+pub returns : goal.returns
+returns c = held c.answer_for_c.ensures c.check_reel-a.ensures

@@ -1,0 +1,15 @@
+-- `flic_close_reel` meets its contract: it hands on what `close_reel` answers to the reel that the record stands for.
+use mathlib.Core.Path.{ap, ◌∙◌}
+use Rattle.state.specs.State.{state}
+use Rattle.reel_build.specs.declared.Reel.{Reel}
+use Rattle.reel_close.specs.Closing.{close_reel}
+use borrow.Author.Rules.{rules}
+use Rattle.capi.proofs.Laws.{held_reel}
+use Rattle.capi.proofs.flic_close_reel.Goals as goal
+
+pub returns : goal.returns
+returns c =
+    let here = c in
+    let made = here in
+    let a = made.args in
+    held_reel c.built_for_c.ensures.0 (here.close_reel-a.ensures ∙ ap (λ (r : Reel). close_reel r a.bytes.now (state a.first-picture.now a.first-palette.now) (state a.second-picture.now a.second-palette.now)) made.reel_from_c.ensures) c.built_for_c.ensures.1

@@ -1,0 +1,7 @@
+-- `flic_list` meets its contract: it hands on what `list_into` answers.
+use borrow.Author.Rules.{rules}
+use Rattle.capi.proofs.Laws.{held_length}
+use Rattle.capi.proofs.flic_list.Goals as goal
+
+pub returns : goal.returns
+returns c = held_length c.written_for_c.ensures.0 c.list_into-a.ensures c.written_for_c.ensures.1

@@ -1,0 +1,17 @@
+-- `flic_read_header` meets its contract: it hands on what `head_of` gives, field by field.
+use mathlib.Core.Path.{ap, sym, ◌∙◌}
+use Prim.Native.Nat.{ℕ}
+use borrow.Author.Rules.{rules}
+use Rattle.capi.specs.Capi.{header_for}
+use Rattle.capi.proofs.flic_read_header.Goals as goal
+
+pub returns-in-Fault : goal.returns-in-Fault
+returns-in-Fault c =
+    ap (λ (n : ℕ). record { number = n; place = 0; width = 0; height = 0; frames = 0; size = 0; speed = 0; format = 0 }) c.number_of.ensures
+    ∙ ap header_for (sym (sym c.head_of.ensures ∙ c.in-Fault.is))
+
+pub returns-in-Reel : goal.returns-in-Reel
+returns-in-Reel c =
+    let g = c.in-Reel.given.0 in
+    ap (λ (n : ℕ). record { number = 0; place = 0; width = g.0.width; height = g.0.height; frames = g.1.0; size = g.1.1.0; speed = g.1.1.1.0.0; format = n }) c.format_number.ensures
+    ∙ ap header_for (sym (sym c.head_of.ensures ∙ c.in-Reel.is))

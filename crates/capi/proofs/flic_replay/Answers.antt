@@ -1,0 +1,7 @@
+-- `flic_replay` meets its contract: it hands on what `replay` answers.
+use Rattle.capi.proofs.Laws.{held_length}
+use borrow.Author.Rules.{rules}
+use Rattle.capi.proofs.flic_replay.Goals as goal
+
+pub returns : goal.returns
+returns c = held_length c.written_for_c.ensures.0 c.replay-a.ensures c.written_for_c.ensures.1

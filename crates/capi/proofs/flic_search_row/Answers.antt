@@ -1,0 +1,25 @@
+-- `flic_search_row` meets its contract: it hands on what `search_row` gives, field by field.
+use mathlib.Core.Path.{ap, sym, ◌∙◌}
+use Prim.Native.Nat.{ℕ}
+use native.Mathlib.Omega.{arith}
+use borrow.Author.Rules.{rules}
+use Rattle.house_rows.specs.Search.{turns_of}
+use Rattle.capi.specs.declared.RowFigures.{RowFigures}
+use Rattle.capi.specs.Capi.{figures_for}
+use Rattle.capi.proofs.flic_search_row.Goals as goal
+
+pub returns-in-Fault : goal.returns-in-Fault
+returns-in-Fault c =
+    record {
+      figures_are =
+          ap {B = RowFigures} (λ (n : ℕ). record { number = n; place = 0; bytes = 0; turns = 0 }) c.number_of.ensures
+          ∙ ap figures_for (sym c.in-Fault.is ∙ c.search_row.ensures.cost_is);
+      few = omega arith;
+    }
+
+pub returns-in-Cost : goal.returns-in-Cost
+returns-in-Cost c =
+    record {
+      figures_are = ap figures_for (sym c.in-Cost.is ∙ c.search_row.ensures.cost_is);
+      few = omega (arith, ap turns_of c.in-Cost.is, c.search_row.ensures.few);
+    }

@@ -1,0 +1,13 @@
+-- `flic_write_frame` meets its contract: it hands on what `write_frame` answers.
+use mathlib.Core.Path.{ap, ◌∙◌}
+use borrow.Author.Rules.{rules}
+use Rattle.format.specs.declared.Size.{Size}
+use Rattle.state.specs.State.{state}
+use Rattle.house_frame.specs.Writing.{write_frame}
+use Rattle.capi.proofs.Laws.{held_length}
+use Rattle.capi.proofs.flic_write_frame.Goals as goal
+
+pub returns : goal.returns
+returns c =
+    let a = c.args in
+    held_length c.written_for_c.ensures.0 (c.write_frame-a.ensures ∙ ap (λ (z : Size). write_frame z (state a.previous-picture.now a.previous-palette.now) (state a.next-picture.now a.next-palette.now) a.out.now) c.size_from_c-size.ensures) c.written_for_c.ensures.1

@@ -1,0 +1,10 @@
+-- `in_jiffies` meets its contract: the test decides whether two bytes hold the delay.
+use borrow.Author.Rules.{rules}
+use borrow.Author.Tests.{le-leb, lt-leb}
+use Rattle.delay.proofs.in_jiffies.Goals as goal
+
+pub returns-then-jiffies-gt65535 : goal.returns-then-jiffies-gt65535
+returns-then-jiffies-gt65535 c = simp (lt-leb _ 65535 c.if-jiffies-gt65535.true)
+
+pub returns : goal.returns
+returns c = simp (le-leb _ 65535 c.if-jiffies-gt65535.false)

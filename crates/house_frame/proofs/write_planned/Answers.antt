@@ -1,0 +1,42 @@
+-- `write_planned` meets its contract: the plans' sizes make up the frame's, and its three parts are stored one after the other.
+use native.Mathlib.Omega.{arith}
+use borrow.Author.Rules.{rules}
+use Rattle.state.specs.State.{state}
+use Rattle.house_frame.proofs.Laws.{Planned, colours_in, picture_in, house_none, house_stored}
+use Rattle.house_frame.proofs.write_planned.Goals as goal
+
+-- the two states and what is planned
+plans : (c : tie.Start) → let a = c.args in Planned a.size (state a.previous-picture.now a.previous-palette.now) (state a.next-picture.now a.next-palette.now) a.colours a.picture
+plans c = let p = c.requires in record { previous = p.0; next = p.1; colours = p.2; picture = p.3 }
+
+pub overflow_add-whole : goal.overflow_add-whole
+overflow_add-whole c = omega (arith, (colours_in (plans c)).short)
+
+pub overflow_add-whole-2 : goal.overflow_add-whole-2
+overflow_add-whole-2 c = let p = plans c in omega (arith, (colours_in p).short, (picture_in p).short)
+
+pub returns-then-out-whole : goal.returns-then-out-whole
+returns-then-out-whole c = house_none (plans c) c.args.out.now c.if-out-whole.true
+
+pub overflow_add-colours : goal.overflow_add-colours
+overflow_add-colours c = let p = plans c in omega (arith, (colours_in p).one, (picture_in p).one)
+
+pub put_frame_header-requires : goal.put_frame_header-requires
+put_frame_header-requires c =
+    let p = plans c in (omega (arith, c.if-out-whole.false), omega (arith, (colours_in p).one, (picture_in p).one))
+
+pub overflow_add-at : goal.overflow_add-at
+overflow_add-at c = omega (arith, (colours_in (plans c)).short)
+
+pub write_colours-requires : goal.write_colours-requires
+write_colours-requires c = let p = c.requires in (p.0.colours, p.1.colours, p.2, omega (arith, c.if-out-whole.false))
+
+pub write_picture-requires : goal.write_picture-requires
+write_picture-requires c = let p = c.requires in (p.0.picture, p.1.picture, p.3, p.4, omega (arith, c.if-out-whole.false))
+
+pub returns : goal.returns
+returns c =
+    let header = c.put_frame_header in
+    let colours = c.write_colours in
+    let picture = c.write_picture in
+    house_stored (plans c) c.args.out.now header.new.out colours.new.out picture.new.out c.if-out-whole.false header.ensures colours.ensures picture.ensures

@@ -1,0 +1,20 @@
+-- The invariant: what was counted and the edges of the rows left make all of them; a row has at most as many as pixels, so the sum fits.
+use mathlib.Core.Path.{◌≡◌, ap}
+use Prim.Native.Nat.{◌+◌, ◌-◌, ◌*◌, ◌≤◌}
+use native.Mathlib.Omega.{arith}
+use borrow.Author.Rules.{rules}
+use lib.Dec.{ltb}
+use lib.ListN.{length, take, drop}
+use lib.Seq.{drop-drop}
+use Rattle.house_full.specs.Edges.{edges, all_edges}
+use Rattle.house_full.proofs.Edges.{edges_few, all_none, all_more}
+use Rattle.house_full.proofs.Laws.{sized_small, row_at, row_length, rows_left}
+use Rattle.house_full.proofs.more_edges.Given as goal
+
+abbrev pub invariant-loop-left : goal.invariant-loop-left
+invariant-loop-left l =
+    (l.from + l.width * l.left ≡ length l.picture) × (l.count ≤ l.from)
+    × (l.count + all_edges l.width l.left (drop l.from l.picture) ≡ all_edges l.width l.height l.picture)
+
+abbrev pub decreases-loop-left : goal.decreases-loop-left
+decreases-loop-left l = l.left

@@ -1,0 +1,14 @@
+-- Invariant: size is the bytes of the lines before row r, and the left rows from row r on give the rest.
+use Rattle.house_lc.specs.Line.{line, line_most}
+use Rattle.house_cells.proofs.EachLaws.{cell_inside, cells_few, Sizing, sizing_first, sizing_on, sizing_ends}
+use lib.ListN.{length}
+use native.Mathlib.Omega.{arith}
+use Prim.Native.Nat.{◌+◌, ◌<◌}
+use borrow.Author.Rules.{rules}
+use Rattle.house_lc.proofs.lines_size.Given as goal
+
+abbrev pub invariant-loop-left : goal.invariant-loop-left
+invariant-loop-left l = Sizing l.width l.previous l.next (line l.width) l.first l.n line_most l.r l.left l.size
+
+abbrev pub decreases-loop-left : goal.decreases-loop-left
+decreases-loop-left l = l.left

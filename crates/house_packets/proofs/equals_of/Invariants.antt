@@ -1,0 +1,16 @@
+-- Invariant: the first j units are equal to unit v, and the count goes on from unit x + j.
+use Rattle.house_packets.proofs.UnitLaws.{Equal, equal_first, equal_on, equal_stops, equal_ends}
+use Rattle.house_cells.proofs.EachLaws.{cell_inside, cells_few}
+use Rattle.house_packets.specs.Units.{unit_at}
+use lib.ListN.{length}
+use native.Mathlib.Omega.{arith}
+use Prim.Native.Nat.{◌-◌, ◌+◌}
+use borrow.Author.Tests.{not-true, not-false}
+use borrow.Author.Rules.{rules}
+use Rattle.house_packets.proofs.equals_of.Given as goal
+
+abbrev pub invariant-loop-j : goal.invariant-loop-j
+invariant-loop-j l = Equal (unit_at l.unit l.b l.v) l.unit l.b l.x l.m l.j
+
+abbrev pub decreases-loop-j : goal.decreases-loop-j
+decreases-loop-j l = l.m - l.j

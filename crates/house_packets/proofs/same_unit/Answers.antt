@@ -1,0 +1,20 @@
+-- The first bytes decide, or, where a unit has two, the second.
+use Prim.Native.Nat.{◌*◌}
+use Rattle.house_packets.proofs.UnitLaws.{unit_other, unit_one, unit_two}
+use borrow.Author.Rules.{rules}
+use Rattle.house_packets.proofs.same_unit.Goals as goal
+
+pub returns-then-b-i : goal.returns-then-b-i
+returns-then-b-i c =
+    let a = c.args in
+    unit_other a.b.now (a.x * a.unit) (a.y * a.unit) a.unit c.requires.0 c.requires.1 c.requires.2 c.requires.3 c.if-b-i.true
+
+pub returns-then-unit-eq1 : goal.returns-then-unit-eq1
+returns-then-unit-eq1 c =
+    let a = c.args in
+    unit_one a.b.now (a.x * a.unit) (a.y * a.unit) a.unit c.requires.0 c.requires.1 c.requires.2 c.requires.3 c.if-b-i.false c.if-unit-eq1.true
+
+pub returns : goal.returns
+returns c =
+    let a = c.args in
+    unit_two a.b.now (a.x * a.unit) (a.y * a.unit) a.unit c.requires.0 c.requires.1 c.requires.2 c.requires.3 c.if-b-i.false c.if-unit-eq1.false

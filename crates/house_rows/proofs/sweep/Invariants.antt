@@ -1,0 +1,19 @@
+-- `sweep` meets its contract. After place j: low is the lowest end from t + 1 to j, and far has the lowest end up to each place passed; one place more joins a range of one on the right.
+use mathlib.Core.Path.{◌≡◌, ap, sym, subst, ◌∙◌}
+use Prim.Native.Nat.{◌+◌, ◌-◌, ◌≤◌, ◌<◌}
+use native.Mathlib.Omega.{arith}
+use borrow.Author.Rules.{rules}
+use lib.ListN.{length, length-set}
+use Rattle.format.specs.Limits.{max_width}
+use Rattle.house_rows.specs.declared.End.{End}
+use Rattle.house_rows.specs.Window.{LowestEnd, sum_at}
+use Rattle.house_rows.proofs.Windows.{Swept, swept_more, lower_next, lower_small, end_packed}
+use Rattle.house_rows.proofs.sweep.Given as goal
+
+abbrev pub invariant-loop-j : goal.invariant-loop-j
+invariant-loop-j l =
+    (length l.far ≡ max_width + 1) × (l.t ≤ l.j) × (l.j ≤ l.t + 128) × (l.turns + l.t ≡ l.j) × (l.low.sum < 65536) × (l.j ≡ l.t → l.low.sum ≡ sum_at l.sums (l.j + 1))
+    × (l.t < l.j → LowestEnd (sum_at l.sums) (l.t + 1) l.j l.low) × Swept (sum_at l.sums) l.t l.j l.far
+
+abbrev pub decreases-loop-j : goal.decreases-loop-j
+decreases-loop-j l = l.t + 128 - l.j

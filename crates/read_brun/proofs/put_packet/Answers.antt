@@ -1,0 +1,14 @@
+-- `put_packet` meets its contract: what is stored in a wet pass; a dry one changes nothing.
+use Rattle.read_brun.specs.Brun.{pixels}
+use Rattle.walk.proofs.Laws.{stored_wet}
+use mathlib.Core.Path.{◌∙◌}
+use borrow.Author.Rules.{rules}
+use Rattle.read_brun.proofs.put_packet.Goals as goal
+
+pub put_pixels-requires : goal.put_pixels-requires
+put_pixels-requires c = (c.requires.0, c.requires.1 c.in-Wet.is)
+
+pub returns-in-Wet : goal.returns-in-Wet
+returns-in-Wet c =
+    let a = c.args in
+    c.put_pixels.ensures ∙ stored_wet a.pass a.picture.now a.to (pixels a.body.now a.at a.code) c.in-Wet.is

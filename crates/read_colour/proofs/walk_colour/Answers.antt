@@ -1,0 +1,57 @@
+-- `walk_colour` meets its contract. The invariant: the packets left, on the palette as it is, come out as the body does on the palette as found.
+use Rattle.read_colour.proofs.Laws.{PacketIn, packet_in, packets_stop, packets_none, packets_on, colours_open, colours_cut}
+use Rattle.read_colour.specs.declared.ColourStep.TheVariants.{Colours}
+use Rattle.read_colour.specs.Colour.{packets, colour}
+use Rattle.walk.proofs.Laws.{seen, seen_gives, seen_none}
+use Rattle.walk.specs.Walk.{Walk}
+use lib.ListN.{length}
+use native.Mathlib.Omega.{arith}
+use Prim.Native.Nat.{◌≤◌}
+use mathlib.Core.Path.{◌≡◌, ap, ◌∙◌, sym, refl}
+use borrow.Author.Rules.{rules}
+use Rattle.read_colour.proofs.walk_colour.Goals as goal
+
+-- the packet is whole: what holds of its parts
+inside : (c : tie.After-from invariant-loop decreases-loop) → let f = c.from.given.0 in
+    PacketIn c.before.before.before.before.before.before.before.before.before.args.levels c.before.before.before.before.before.before.before.before.before.args.body.now (Colours f.0 f.1.0 f.1.1.0 f.1.1.1.0)
+inside c = packet_in _ _ _ _ _ (sym c.before.before.packet_at_lem.ensures ∙ c.from.given.1)
+
+pub returns-then-body-lt2 : goal.returns-then-body-lt2
+returns-then-body-lt2 c =
+    let a = c.args in
+    seen_gives _ _ _ _ _ (seen_none a.pass _ a.palette.now _ (colours_cut a.levels a.body.now c.if-body-lt2.true))
+
+pub loop-left-init : goal.loop-left-init
+loop-left-init c =
+    let a = c.args in
+    (search rules, search rules, refl, ap (λ (k : Walk). seen a.pass k a.palette.now) (colours_open a.levels a.body.now _ (omega arith) c.u16_at-left.ensures.value))
+
+pub returns-in-Fault : goal.returns-in-Fault
+returns-in-Fault c =
+    let a = c.args in
+    let l = c.loop-left in
+    seen_gives _ _ _ _ _ (l.invariant.3 ∙ seen_none a.pass _ l.palette _ (packets_stop a.levels a.body.now l.left l.at l.index c.loop-left-test.true _ (sym c.in-Fault.is ∙ c.packet_at.ensures)))
+
+pub put_colours-requires : goal.put_colours-requires
+put_colours-requires c =
+    let k = inside c in (k.0, λ wet. omega (arith, k.1, c.requires wet, c.loop-left.invariant.2), k.3)
+
+pub overflow_add-at : goal.overflow_add-at
+overflow_add-at c = omega (arith, (inside c).0)
+
+pub loop-left-preserved : goal.loop-left-preserved
+loop-left-preserved c =
+    let a = c.args in
+    let l = c.loop-left in
+    let k = inside c in (
+      k.0,
+      k.2,
+      c.put_colours.auto.palette ∙ l.invariant.2,
+      l.invariant.3 ∙ packets_on a.levels a.body.now a.pass l.palette c.put_colours.new.palette l.left l.at l.index c.loop-left-test.true _ _ _ _ (sym c.in-Colours.is ∙ c.packet_at.ensures) c.put_colours.ensures,
+    )
+
+pub returns : goal.returns
+returns c =
+    let a = c.args in
+    let l = c.loop-left in
+    seen_gives _ _ _ _ _ (l.invariant.3 ∙ seen_none a.pass _ l.palette _ (packets_none a.levels a.body.now l.left l.at l.index c.loop-left-test.false))

@@ -1,0 +1,18 @@
+-- The invariant: what was added up and what is left are all. Chunks lie one behind the other, so that the sum is no more than the offset.
+use mathlib.Core.Path.{◌≡◌, ◌∙◌, sym}
+use Prim.Native.Nat.{◌≤◌, ◌+◌}
+use native.Mathlib.Omega.{arith}
+use borrow.Author.Rules.{rules}
+use lib.ListN.{length}
+use Rattle.chunks.specs.Spans.{sub_spans}
+use Rattle.chunks.proofs.Headers.{header_in_lem}
+use Rattle.read_frame.specs.Packets.{packet_bytes}
+use Rattle.read_frame.proofs.Laws.{packets_none, packets_fault, packets_more}
+use Rattle.read_frame.proofs.packet_bytes.Given as goal
+
+abbrev pub invariant-loop-left : goal.invariant-loop-left
+invariant-loop-left l =
+    (l.at ≤ length l.b) × (l.total ≤ l.at) × (packet_bytes (sub_spans l.b l.count 16).met ≡ l.total + packet_bytes (sub_spans l.b l.left l.at).met)
+
+abbrev pub decreases-loop-left : goal.decreases-loop-left
+decreases-loop-left l = l.left

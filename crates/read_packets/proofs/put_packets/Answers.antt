@@ -1,0 +1,96 @@
+-- The invariant: the packets that are left, from here on, on the picture as it is now, give what the whole row gives on the picture as it was. A packet of one pair is one of type 1. The measure is their count.
+use mathlib.Core.List.{List}
+use mathlib.Core.Path.{◌≡◌, ap, ap₂, ◌∙◌, sym, refl}
+use Prim.Native.Nat.{ℕ, ◌≤◌, ◌+◌, ◌-◌, ◌*◌}
+use native.Mathlib.Nat.{mul-le-mul}
+use native.Mathlib.Omega.{arith}
+use borrow.Author.Rules.{rules}
+use lib.ListN.{length}
+use Rattle.format.specs.Limits.{Wide}
+use Rattle.walk.specs.Walk.{stored}
+use Rattle.walk.specs.declared.Pass.TheVariants.{Wet}
+use Rattle.walk.proofs.Laws.{seen, seen_gives, seen_none}
+use Rattle.read_packets.specs.declared.PacketStep.TheVariants.{Pixels}
+use Rattle.read_packets.specs.Packets.{packet_at, packets}
+use Rattle.read_packets.proofs.Laws.{PairIn, pair_in, pair_whole, pair_pixels, packet_in, packets_stop, packets_on, packets_none}
+use Rattle.read_packets.proofs.put_packets.Goals as goal
+
+-- the packet at hand copies one pair
+pair : (c : tie.Then1 invariant-loop decreases-loop) → let a = c.before.before.before.before.before.before.args in let l = c.before.before.before.loop in PairIn a.unit a.width a.body.now l.at l.x
+pair c = pair_in _ _ _ _ _ (sym c.before.pair-at.ensures ∙ c.if1.true)
+
+-- the packet at hand is whole
+whole : (c : tie.After-code invariant-loop decreases-loop) → let a = c.before.before.before.before.before.before.before.before.before.args in let l = c.before.before.before.before.before.before.loop in let f = c.code.given.0 in
+    packet_at a.unit a.width a.body.now l.at l.x ≡ Pixels f.0 f.1.0 f.1.1.0 f.1.1.1.0
+whole c = sym c.before.before.packet_at_lem.ensures ∙ c.code.given.1
+
+pub overflow_mul-place : goal.overflow_mul-place
+overflow_mul-place c = omega (arith, mul-le-mul c.requires.2 c.requires.1)
+
+pub loop-left-init : goal.loop-left-init
+loop-left-init c = (c.requires.0, omega arith, refl, refl)
+
+pub bounds-body-at : goal.bounds-body-at
+bounds-body-at c = omega (arith, (pair c).in_body)
+
+pub overflow_add-place : goal.overflow_add-place
+overflow_add-place c =
+    let pre = c.requires in
+    omega (arith, (pair c).in_row, c.wide.ensures.0, mul-le-mul pre.2 pre.1)
+
+pub put_pair-requires : goal.put_pair-requires
+put_pair-requires c =
+    let p = pair c in
+    (omega (arith, p.in_body), omega (arith, p.in_row, c.wide.ensures.0, c.loop-left.invariant.2, c.requires.5))
+
+pub loop-left-preserved-then-pair_at : goal.loop-left-preserved-then-pair_at
+loop-left-preserved-then-pair_at c =
+    let a = c.args in
+    let l = c.loop-left in
+    let p = pair c in
+    let skip = c.wide.ensures.0 in
+    let d = c.put_pair.new.picture in (
+      omega (arith, p.in_body),
+      omega (arith, p.in_row, skip, c.requires.1),
+      c.put_pair.auto.picture ∙ l.invariant.2,
+      l.invariant.3
+          ∙ packets_on a.unit a.width a.body.now Wet l.picture d l.left a.row l.at l.x c.loop-left-test.true _ _ _ _ (pair_whole _ _ _ _ _ p)
+          (c.put_pair.ensures ∙ ap₂ (λ (n : ℕ) (v : List ℕ). stored Wet l.picture (a.row * a.width + (l.x + n)) v) skip (sym (pair_pixels _ a.body.now (l.at + 2) _ p.pairs refl)))
+          ∙ ap (λ (n : ℕ). seen Wet (packets a.unit a.width a.body.now (l.left - 1) a.row (l.at + 4) (l.x + n + 2)) d) (sym skip),
+    )
+
+pub returns-in-Fault : goal.returns-in-Fault
+returns-in-Fault c =
+    let a = c.args in
+    let l = c.loop-left in
+    seen_gives Wet _ _ _ _ (l.invariant.3 ∙ seen_none Wet _ l.picture _ (packets_stop _ _ _ _ _ _ _ c.loop-left-test.true _ (sym c.packet_at.ensures ∙ c.in-Fault.is)))
+
+pub overflow_add-place-in-Pixels : goal.overflow_add-place-in-Pixels
+overflow_add-place-in-Pixels c =
+    let i = packet_in _ _ _ _ _ _ _ _ _ (whole c) in
+    let pre = c.requires in
+    omega (arith, i.columns, i.in_row, mul-le-mul pre.2 pre.1)
+
+pub put_pixels-requires : goal.put_pixels-requires
+put_pixels-requires c =
+    let i = packet_in _ _ _ _ _ _ _ _ _ (whole c) in
+    let pre = c.requires in
+    (omega (arith, i.bytes, i.in_body), omega (arith, i.columns, i.in_row, c.loop-left.invariant.2, pre.5), pre.3, pre.4)
+
+pub loop-left-preserved : goal.loop-left-preserved
+loop-left-preserved c =
+    let a = c.args in
+    let l = c.loop-left in
+    let q = whole c in
+    let i = packet_in _ _ _ _ _ _ _ _ _ q in (
+      i.in_body,
+      omega (arith, i.in_row, c.requires.1),
+      c.put_pixels.auto.picture ∙ l.invariant.2,
+      l.invariant.3 ∙ packets_on _ _ _ Wet l.picture c.put_pixels.new.picture _ _ _ _ c.loop-left-test.true _ _ _ _ q c.put_pixels.ensures,
+    )
+
+pub returns : goal.returns
+returns c =
+    let a = c.args in
+    let l = c.loop-left in
+    seen_gives Wet _ _ _ _ (l.invariant.3 ∙ seen_none Wet _ l.picture _ (packets_none _ _ _ _ _ _ _ c.loop-left-test.false))

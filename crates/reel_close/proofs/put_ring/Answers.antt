@@ -1,0 +1,26 @@
+-- `put_ring` meets its contract: the ring is appended, and the header closed where that was done.
+use mathlib.Core.List.{List}
+use mathlib.Core.Path.{◌∙◌}
+use Prim.Native.Nat.{ℕ}
+use borrow.Author.Rules.{rules}
+use Rattle.state.specs.Outcome.{lent_bytes}
+use Rattle.state.specs.State.{state}
+use Rattle.house_frame.specs.House.{house_frame}
+use Rattle.reel_build.proofs.Laws.{refused_keeps}
+use Rattle.reel_close.proofs.Laws.{ring_done, ring_refused}
+use Rattle.reel_close.proofs.put_ring.Goals as goal
+
+-- the ring that is asked for
+abbrev ring : tie.Start → List ℕ
+ring c = let a = c.args in house_frame a.reel.size (state a.last-picture.now a.last-palette.now) (state a.one-picture.now a.one-palette.now)
+
+pub returns-in-Refused : goal.returns-in-Refused
+returns-in-Refused c =
+    let p = c.append in
+    refused_keeps _ _ _ _ c.refused.ensures (lent_bytes p.new.bytes)
+    ∙ ring_refused c.args.reel (ring (c)) c.args.bytes.now p.result p.new.bytes p.ensures _ _ c.in-Refused.is
+
+pub returns-in-Done : goal.returns-in-Done
+returns-in-Done c =
+    let p = c.append in
+    ring_done c.args.reel (ring (c)) c.args.bytes.now p.result p.new.bytes p.ensures _ c.in-Done.is c.second_at-second.result _ c.second_at-second.ensures c.close_header.ensures

@@ -1,0 +1,8 @@
+-- `u16_at` meets its contract: the two bytes are those of the word.
+use borrow.Author.Rules.{rules}
+use Rattle.words.specs.Words.{u16_at}
+use Rattle.words.proofs.u16_at.Goals as goal
+
+pub returns : goal.returns
+unfolding u16_at
+returns c = search rules
