@@ -280,9 +280,9 @@ unfoldable pub shown : Pass → Run → List ℕ → ℕ → Verdict × List ℕ
 shown p r d to = (r.verdict, stored p d to r.pixels)
 
 pub shown_gives : (p : Pass) (r : Run) (d : List ℕ) (to : ℕ) (e : List ℕ) (v : Verdict) → shown p r d to ≡ (v, e)
-    → (v ≡ r.verdict) × (e ≡ stored p d to r.pixels)
+    → record { verdict : v ≡ r.verdict; writes : e ≡ stored p d to r.pixels }
 unfolding shown
-shown_gives p r d to e v s = (sym (ap (λ (x : Verdict × List ℕ). x.0) s), sym (ap (λ (x : Verdict × List ℕ). x.1) s))
+shown_gives p r d to e v s = record { verdict = sym (ap (λ (x : Verdict × List ℕ). x.0) s); writes = sym (ap (λ (x : Verdict × List ℕ). x.1) s) }
 
 pub shown_none : (p : Pass) (r : Run) (d : List ℕ) (to : ℕ) (v : Verdict) → r ≡ record { pixels = []; verdict = v } → shown p r d to ≡ (v, d)
 unfolding shown

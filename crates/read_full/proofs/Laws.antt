@@ -38,16 +38,16 @@ copied_short n b h = simp (lt-leb n (length b) h)
 
 -- a walk that is one write of the first n pixels: after a dry pass, after a wet one in which they came back as x
 module _ {k : Walk} {end : ℕ} {v : List ℕ} (whole : k ≡ and_then 0 v (ends end)) (p : Pass) (d : List ℕ) where
-  pub front_dry : p ≡ Dry → (Ends end ≡ k.verdict) × (d ≡ wrote p k.writes d)
-  front_dry e = (sym (ap (λ (w : Walk). w.verdict) whole), sym (ap (λ (q : Pass). wrote q k.writes d) e))
+  pub front_dry : p ≡ Dry → record { verdict : Ends end ≡ k.verdict; writes : d ≡ wrote p k.writes d }
+  front_dry e = record { verdict = sym (ap (λ (w : Walk). w.verdict) whole); writes = sym (ap (λ (q : Pass). wrote q k.writes d) e) }
 
   pub front_wet : p ≡ Wet → (x : List ℕ) (n : ℕ) → x ≡ v → length v ≡ n
-      → (Ends end ≡ k.verdict) × (x ++ drop (n - 0) d ≡ wrote p k.writes d)
-  front_wet e x n i l = (
-    sym (ap (λ (w : Walk). w.verdict) whole),
-    span_back d x v 0 n n i l (omega arith)
-        ∙ sym (ap₂ (λ (q : Pass) (w : Walk). wrote q w.writes d) e whole ∙ wrote_one Wet 0 v d),
-  )
+      → record { verdict : Ends end ≡ k.verdict; writes : x ++ drop (n - 0) d ≡ wrote p k.writes d }
+  front_wet e x n i l = record {
+    verdict = sym (ap (λ (w : Walk). w.verdict) whole);
+    writes = span_back d x v 0 n n i l (omega arith)
+        ∙ sym (ap₂ (λ (q : Pass) (w : Walk). wrote q w.writes d) e whole ∙ wrote_one Wet 0 v d);
+  }
 
 -- the data ends within the body; bytes are written, within the picture
 

@@ -9,11 +9,6 @@ use mathlib.Core.Path.{◌≡◌, ap, ◌∙◌, sym, refl}
 use borrow.Author.Rules.{rules}
 use Rattle.read_brun.proofs.walk_row.Goals as goal
 
--- the packet is whole: what holds of its parts
-inside : (c : tie.After-code invariant-loop decreases-loop) → let f = c.code.given.0 in
-    PacketIn c.before.before.before.before.before.before.before.before.args.body.now c.before.before.before.before.loop.at c.before.before.before.before.loop.left (Pixels f.0 f.1.0 f.1.1.0)
-inside c = packet_in _ _ _ _ (sym c.before.before.packet_at_lem.ensures ∙ c.code.given.1)
-
 pub returns-then-body-from-lt1 : goal.returns-then-body-from-lt1
 returns-then-body-from-lt1 c =
     let a = c.args in
@@ -31,28 +26,28 @@ returns-in-Fault c =
     shown_gives _ _ _ _ _ _ (l.invariant.3 ∙ shown_none a.pass _ l.picture l.to _ (packets_stop a.body.now l.left l.at c.loop-left-test.true _ (sym c.packet_at.ensures ∙ c.in-Fault.is)))
 
 pub overflow_add-at-in-Pixels : goal.overflow_add-at-in-Pixels
-overflow_add-at-in-Pixels c = omega (arith, (inside c).3, (inside c).4)
+overflow_add-at-in-Pixels c = omega (arith, (packet_in _ _ _ _ (sym c.packet_at.ensures ∙ c.in-Pixels.is)).3, (packet_in _ _ _ _ (sym c.packet_at.ensures ∙ c.in-Pixels.is)).4)
 
 pub put_packet-requires : goal.put_packet-requires
 put_packet-requires c =
-    let i = inside c in
+    let i = packet_in _ _ _ _ (sym c.packet_at.ensures ∙ c.in-Pixels.is) in
     let l = c.loop-left in
     (omega (arith, i.3, i.4), λ wet. omega (arith, i.1, i.2, c.requires.3 wet, l.invariant.1, l.invariant.2))
 
 pub overflow_add-to : goal.overflow_add-to
-overflow_add-to c = let l = c.loop-left in omega (arith, (inside c).1, l.invariant.1, c.requires.1, c.requires.2)
+overflow_add-to c = let l = c.loop-left in omega (arith, (packet_in _ _ _ _ (sym c.packet_at.ensures ∙ c.in-Pixels.is)).1, l.invariant.1, c.requires.1, c.requires.2)
 
 pub overflow_sub-left : goal.overflow_sub-left
-overflow_sub-left c = (inside c).1
+overflow_sub-left c = (packet_in _ _ _ _ (sym c.packet_at.ensures ∙ c.in-Pixels.is)).1
 
 pub loop-left-smaller : goal.loop-left-smaller
-loop-left-smaller c = omega (arith, (inside c).0, (inside c).1)
+loop-left-smaller c = omega (arith, (packet_in _ _ _ _ (sym c.packet_at.ensures ∙ c.in-Pixels.is)).0, (packet_in _ _ _ _ (sym c.packet_at.ensures ∙ c.in-Pixels.is)).1)
 
 pub loop-left-preserved : goal.loop-left-preserved
 loop-left-preserved c =
     let a = c.args in
     let l = c.loop-left in
-    let i = inside c in (
+    let i = packet_in _ _ _ _ (sym c.packet_at.ensures ∙ c.in-Pixels.is) in (
       i.4,
       omega (arith, l.invariant.1, i.1),
       c.put_packet.auto.picture ∙ l.invariant.2,

@@ -11,13 +11,13 @@ use Rattle.read_chunk.proofs.walk_chunk.Goals as goal
 pub returns-then-not-kind_ok : goal.returns-then-not-kind_ok
 returns-then-not-kind_ok c =
     let a = c.args in
-    no_write _ _ a.pass a.picture.now a.palette.now (chunk_by a.size a.kind a.body.now false (sym c.kind_ok.ensures ∙ not-true _ c.if-not-kind_ok.true))
+    no_write _ _ a.pass a.picture.now a.palette.now (chunk_by a.size a.kind a.body.now false (sym c.kind_ok.ensures ∙ c.if-not-kind_ok.true))
 
 pub returns : goal.returns
 returns c =
     let a = c.args in
     let x = c.walk_kind in
-    let here = sym (chunk_by a.size a.kind a.body.now true (sym c.kind_ok.ensures ∙ not-false _ c.if-not-kind_ok.false)) in (
+    let here = sym (chunk_by a.size a.kind a.body.now true (sym c.kind_ok.ensures ∙ c.if-not-kind_ok.false)) in (
       x.ensures.verdict ∙ ap (λ (w : ChunkWalk). w.verdict) here,
       (x.ensures.pixels.0 ∙ ap (λ (w : ChunkWalk). wrote a.pass w.pixels a.picture.now) here, x.ensures.pixels.1 ∙ ap (λ (w : ChunkWalk). wrote a.pass w.colours a.palette.now) here),
     )

@@ -9,20 +9,6 @@ use Rattle.read_colour.proofs.Laws.{packet_at_lem, packet_cut, packet_past, pack
 use borrow.Author.Rules.{rules}
 use Rattle.read_colour.proofs.packet_at.Goals as goal
 
--- the packet that the two bytes give
-two : (c : tie.After-count-of) → let a = c.before.before.before.before.before.before.before.args in
-    packet_of a.levels a.body.now a.at (a.i + c.before.before.before.wide.result) c.count_of.result ≡ packet_at a.levels a.body.now a.at a.i
-two c =
-    let a = c.before.before.before.before.before.before.before.args in
-    packet_at_lem a.levels a.body.now a.at a.i _ _ (omega arith) (ap (λ (k : ℕ). a.i + k) c.before.before.before.wide.ensures.0) (c.count_of.ensures.0 ∙ ap count_of c.before.wide2.ensures.0)
-
--- whether its components are in range
-range : (c : tie.After-levels-ok) → let a = c.before.before.before.before.before.before.before.before.before.before.before.args in
-    levels_ok a.levels (take (3 * c.before.before.before.before.count_of.result) (drop (a.at + 2) a.body.now)) ≡ c.levels-ok.result
-range c =
-    let a = c.before.before.before.before.before.before.before.before.before.before.before.args in
-    ap (λ (k : ℕ). levels_ok a.levels (take k (drop (a.at + 2) a.body.now))) (sym (add-sub_cancel_left (a.at + 2) (3 * c.before.before.before.before.count_of.result))) ∙ sym c.levels-ok.ensures
-
 pub returns-then-body-at-lt2 : goal.returns-then-body-at-lt2
 returns-then-body-at-lt2 c =
     let a = c.args in
@@ -31,20 +17,20 @@ returns-then-body-at-lt2 c =
 pub returns-then-next-gt256 : goal.returns-then-next-gt256
 returns-then-next-gt256 c =
     let a = c.args in
-    sym (packet_past a.levels a.body.now a.at _ _ c.if-next-gt256.true) ∙ two c
+    sym (packet_past a.levels a.body.now a.at _ _ c.if-next-gt256.true) ∙ (let a = c.args in packet_at_lem a.levels a.body.now a.at a.i _ _ (omega arith) (ap (λ (k : ℕ). a.i + k) c.wide.ensures.0) (c.count_of-m.ensures.0 ∙ ap count_of c.wide-2.ensures.0))
 
 pub returns-then-body-from : goal.returns-then-body-from
 returns-then-body-from c =
     let a = c.args in
-    sym (packet_short a.levels a.body.now a.at _ _ c.if-next-gt256.false (omega arith)) ∙ two c
+    sym (packet_short a.levels a.body.now a.at _ _ c.if-next-gt256.false (omega arith)) ∙ (let a = c.args in packet_at_lem a.levels a.body.now a.at a.i _ _ (omega arith) (ap (λ (k : ℕ). a.i + k) c.wide.ensures.0) (c.count_of-m.ensures.0 ∙ ap count_of c.wide-2.ensures.0))
 
 pub returns-then-levels_ok : goal.returns-then-levels_ok
 returns-then-levels_ok c =
     let a = c.args in
-    let k = range c ∙ c.if-levels_ok.true in
-    sym (packet_whole a.levels a.body.now a.at _ _ (omega arith) c.if-next-gt256.false k) ∙ two c
+    let k = (let a = c.args in ap (λ (k : ℕ). levels_ok a.levels (take k (drop (a.at + 2) a.body.now))) (sym (add-sub_cancel_left (a.at + 2) (3 * c.count_of-m.result))) ∙ sym c.levels_ok.ensures) ∙ c.if-levels_ok.true in
+    sym (packet_whole a.levels a.body.now a.at _ _ (omega arith) c.if-next-gt256.false k) ∙ (let a = c.args in packet_at_lem a.levels a.body.now a.at a.i _ _ (omega arith) (ap (λ (k : ℕ). a.i + k) c.wide.ensures.0) (c.count_of-m.ensures.0 ∙ ap count_of c.wide-2.ensures.0))
 
 pub returns-else-levels_ok : goal.returns-else-levels_ok
 returns-else-levels_ok c =
     let a = c.args in
-    sym (packet_level a.levels a.body.now a.at _ _ (omega arith) c.if-next-gt256.false (range c ∙ c.if-levels_ok.false)) ∙ two c
+    sym (packet_level a.levels a.body.now a.at _ _ (omega arith) c.if-next-gt256.false ((let a = c.args in ap (λ (k : ℕ). levels_ok a.levels (take k (drop (a.at + 2) a.body.now))) (sym (add-sub_cancel_left (a.at + 2) (3 * c.count_of-m.result))) ∙ sym c.levels_ok.ensures) ∙ c.if-levels_ok.false)) ∙ (let a = c.args in packet_at_lem a.levels a.body.now a.at a.i _ _ (omega arith) (ap (λ (k : ℕ). a.i + k) c.wide.ensures.0) (c.count_of-m.ensures.0 ∙ ap count_of c.wide-2.ensures.0))

@@ -5,9 +5,9 @@ use Rattle.read_colour.proofs.put_levels.Goals as goal
 
 pub put_raised-requires : goal.put_raised-requires
 put_raised-requires c = record {
-      src_len = search rules;
-      src_value = cc (levels_64 c.args.src.now);
-    }
+  src_len = search rules;
+  src_value = cc (levels_64 c.args.src.now);
+}
 
 pub returns-in-Of64 : goal.returns-in-Of64
 returns-in-Of64 c = cc (level_64 c.args.src.now)

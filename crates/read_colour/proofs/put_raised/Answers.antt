@@ -11,7 +11,7 @@ use borrow.Author.Rules.{rules}
 use Rattle.read_colour.proofs.put_raised.Goals as goal
 
 pub raised_level-requires : goal.raised_level-requires
-raised_level-requires c = level_small _ _ c.requires.1 c.loop-i-test.true
+raised_level-requires c = level_small _ _ c.requires.src_value c.loop-i-test.true
 
 pub loop-i-preserved : goal.loop-i-preserved
 loop-i-preserved c =

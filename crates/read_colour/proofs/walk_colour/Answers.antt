@@ -11,11 +11,6 @@ use mathlib.Core.Path.{◌≡◌, ap, ◌∙◌, sym, refl}
 use borrow.Author.Rules.{rules}
 use Rattle.read_colour.proofs.walk_colour.Goals as goal
 
--- the packet is whole: what holds of its parts
-inside : (c : tie.After-from invariant-loop decreases-loop) → let f = c.from.given.0 in
-    PacketIn c.before.before.before.before.before.before.before.before.before.args.levels c.before.before.before.before.before.before.before.before.before.args.body.now (Colours f.0 f.1.0 f.1.1.0 f.1.1.1.0)
-inside c = packet_in _ _ _ _ _ (sym c.before.before.packet_at_lem.ensures ∙ c.from.given.1)
-
 pub returns-then-body-lt2 : goal.returns-then-body-lt2
 returns-then-body-lt2 c =
     let a = c.args in
@@ -34,16 +29,16 @@ returns-in-Fault c =
 
 pub put_colours-requires : goal.put_colours-requires
 put_colours-requires c =
-    let k = inside c in (k.0, λ wet. omega (arith, k.1, c.requires wet, c.loop-left.invariant.2), k.3)
+    let k = packet_in _ _ _ _ _ (sym c.packet_at.ensures ∙ c.in-Colours.is) in (k.0, λ wet. omega (arith, k.1, c.requires wet, c.loop-left.invariant.2), k.3)
 
 pub overflow_add-at : goal.overflow_add-at
-overflow_add-at c = omega (arith, (inside c).0)
+overflow_add-at c = omega (arith, (packet_in _ _ _ _ _ (sym c.packet_at.ensures ∙ c.in-Colours.is)).0)
 
 pub loop-left-preserved : goal.loop-left-preserved
 loop-left-preserved c =
     let a = c.args in
     let l = c.loop-left in
-    let k = inside c in (
+    let k = packet_in _ _ _ _ _ (sym c.packet_at.ensures ∙ c.in-Colours.is) in (
       k.0,
       k.2,
       c.put_colours.auto.palette ∙ l.invariant.2,

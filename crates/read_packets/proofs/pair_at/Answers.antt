@@ -12,9 +12,9 @@ pub returns-then-body-at-lt4 : goal.returns-then-body-at-lt4
 returns-then-body-at-lt4 c = sym (pair_cut _ _ _ _ _ (omega arith))
 
 pub returns-then-not-one_pair : goal.returns-then-not-one_pair
-returns-then-not-one_pair c = sym (pair_other _ _ _ _ _ (omega arith) (sym c.one_pair.ensures ∙ not-true _ c.if-not-one_pair.true))
+returns-then-not-one_pair c = sym (pair_other _ _ _ _ _ (omega arith) (sym c.one_pair.ensures ∙ c.if-not-one_pair.true))
 
 pub returns : goal.returns
 returns c =
     ap (λ (n : ℕ). leb (c.args.x + n + 2) c.args.width) c.wide.ensures.0
-    ∙ sym (pair_by_width _ _ _ _ _ (omega arith) (sym c.one_pair.ensures ∙ not-false _ c.if-not-one_pair.false))
+    ∙ sym (pair_by_width _ _ _ _ _ (omega arith) (sym c.one_pair.ensures ∙ c.if-not-one_pair.false))

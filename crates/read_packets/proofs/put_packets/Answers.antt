@@ -15,15 +15,6 @@ use Rattle.read_packets.specs.Packets.{packet_at, packets}
 use Rattle.read_packets.proofs.Laws.{PairIn, pair_in, pair_whole, pair_pixels, packet_in, packets_stop, packets_on, packets_none}
 use Rattle.read_packets.proofs.put_packets.Goals as goal
 
--- the packet at hand copies one pair
-pair : (c : tie.Then1 invariant-loop decreases-loop) → let a = c.before.before.before.before.before.before.args in let l = c.before.before.before.loop in PairIn a.unit a.width a.body.now l.at l.x
-pair c = pair_in _ _ _ _ _ (sym c.before.pair-at.ensures ∙ c.if1.true)
-
--- the packet at hand is whole
-whole : (c : tie.After-code invariant-loop decreases-loop) → let a = c.before.before.before.before.before.before.before.before.before.args in let l = c.before.before.before.before.before.before.loop in let f = c.code.given.0 in
-    packet_at a.unit a.width a.body.now l.at l.x ≡ Pixels f.0 f.1.0 f.1.1.0 f.1.1.1.0
-whole c = sym c.before.before.packet_at_lem.ensures ∙ c.code.given.1
-
 pub overflow_mul-place : goal.overflow_mul-place
 overflow_mul-place c = omega (arith, mul-le-mul c.requires.2 c.requires.1)
 
@@ -31,23 +22,23 @@ pub loop-left-init : goal.loop-left-init
 loop-left-init c = (c.requires.0, omega arith, refl, refl)
 
 pub bounds-body-at : goal.bounds-body-at
-bounds-body-at c = omega (arith, (pair c).in_body)
+bounds-body-at c = omega (arith, (pair_in _ _ _ _ _ (sym c.pair_at.ensures ∙ c.if-pair_at.true)).in_body)
 
 pub overflow_add-place : goal.overflow_add-place
 overflow_add-place c =
     let pre = c.requires in
-    omega (arith, (pair c).in_row, c.wide.ensures.0, mul-le-mul pre.2 pre.1)
+    omega (arith, (pair_in _ _ _ _ _ (sym c.pair_at.ensures ∙ c.if-pair_at.true)).in_row, c.wide.ensures.0, mul-le-mul pre.2 pre.1)
 
 pub put_pair-requires : goal.put_pair-requires
 put_pair-requires c =
-    let p = pair c in
+    let p = pair_in _ _ _ _ _ (sym c.pair_at.ensures ∙ c.if-pair_at.true) in
     (omega (arith, p.in_body), omega (arith, p.in_row, c.wide.ensures.0, c.loop-left.invariant.2, c.requires.5))
 
 pub loop-left-preserved-then-pair_at : goal.loop-left-preserved-then-pair_at
 loop-left-preserved-then-pair_at c =
     let a = c.args in
     let l = c.loop-left in
-    let p = pair c in
+    let p = pair_in _ _ _ _ _ (sym c.pair_at.ensures ∙ c.if-pair_at.true) in
     let skip = c.wide.ensures.0 in
     let d = c.put_pair.new.picture in (
       omega (arith, p.in_body),
@@ -67,13 +58,13 @@ returns-in-Fault c =
 
 pub overflow_add-place-in-Pixels : goal.overflow_add-place-in-Pixels
 overflow_add-place-in-Pixels c =
-    let i = packet_in _ _ _ _ _ _ _ _ _ (whole c) in
+    let i = packet_in _ _ _ _ _ _ _ _ _ (sym c.packet_at.ensures ∙ c.in-Pixels.is) in
     let pre = c.requires in
     omega (arith, i.columns, i.in_row, mul-le-mul pre.2 pre.1)
 
 pub put_pixels-requires : goal.put_pixels-requires
 put_pixels-requires c =
-    let i = packet_in _ _ _ _ _ _ _ _ _ (whole c) in
+    let i = packet_in _ _ _ _ _ _ _ _ _ (sym c.packet_at.ensures ∙ c.in-Pixels.is) in
     let pre = c.requires in
     (omega (arith, i.bytes, i.in_body), omega (arith, i.columns, i.in_row, c.loop-left.invariant.2, pre.5), pre.3, pre.4)
 
@@ -81,7 +72,7 @@ pub loop-left-preserved : goal.loop-left-preserved
 loop-left-preserved c =
     let a = c.args in
     let l = c.loop-left in
-    let q = whole c in
+    let q = sym c.packet_at.ensures ∙ c.in-Pixels.is in
     let i = packet_in _ _ _ _ _ _ _ _ _ q in (
       i.in_body,
       omega (arith, i.in_row, c.requires.1),

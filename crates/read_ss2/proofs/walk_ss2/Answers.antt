@@ -12,18 +12,6 @@ use Rattle.read_ss2.specs.Ss2.{line_at, ss2}
 use Rattle.read_ss2.proofs.Laws.{line_in, line_down, line_ends, lines_from, lines_none, lines_stop, lines_down, lines_on, lines_stopped, ss2_cut, ss2_open}
 use Rattle.read_ss2.proofs.walk_ss2.Goals as goal
 
--- the line at hand: a skip, which goes down; a row
-down : (c : tie.After-rows invariant-loop decreases-loop) → let a = c.before.before.before.before.before.before.before.before.before.args in let l = c.before.before.before.before.loop in
-    line_at a.height a.body.now l.at l.row ≡ Down c.rows.given.0.0
-down c = sym c.before.before.line_at_lem.ensures ∙ c.rows.given.1
-
-down-far : (c : tie.After-rows invariant-loop decreases-loop) → 0 < c.rows.given.0.0
-down-far c = line_down _ _ _ _ _ (down c) (λ i. omega (arith, c.before.before.before.before.before.before.before.shared-slice-known.given i))
-
-across : (c : tie.After-last invariant-loop decreases-loop) → let a = c.before.before.before.before.before.before.before.before.before.args in let l = c.before.before.before.before.loop in let f = c.last.given.0 in
-    line_at a.height a.body.now l.at l.row ≡ Row f.0 f.1.0 f.1.1.0
-across c = sym c.before.before.line_at_lem.ensures ∙ c.last.given.1
-
 pub returns-then-body-lt2 : goal.returns-then-body-lt2
 returns-then-body-lt2 c =
     let a = c.args in
@@ -41,52 +29,52 @@ returns-in-Fault c =
     seen_gives _ _ _ _ _ (l.invariant.3 ∙ seen_none a.pass _ l.picture _ (lines_stop a.width _ _ _ _ _ c.loop-left-test.true _ (sym c.line_at.ensures ∙ c.in-Fault.is)))
 
 pub overflow_add-row : goal.overflow_add-row
-overflow_add-row c = omega (arith, (line_in _ _ _ _ _ (down c)).1)
+overflow_add-row c = omega (arith, (line_in _ _ _ _ _ (sym c.line_at.ensures ∙ c.in-Down.is)).1)
 
 pub overflow_add-at : goal.overflow_add-at
-overflow_add-at c = omega (arith, (line_in _ _ _ _ _ (down c)).0)
+overflow_add-at c = omega (arith, (line_in _ _ _ _ _ (sym c.line_at.ensures ∙ c.in-Down.is)).0)
 
 pub loop-left-smaller-in-Down : goal.loop-left-smaller-in-Down
-loop-left-smaller-in-Down c = omega (arith, (line_in _ _ _ _ _ (down c)).1, down-far c)
+loop-left-smaller-in-Down c = omega (arith, (line_in _ _ _ _ _ (sym c.line_at.ensures ∙ c.in-Down.is)).1, (line_down _ _ _ _ _ (sym c.line_at.ensures ∙ c.in-Down.is) (λ i. omega (arith, c.type_inv.body i))))
 
 pub loop-left-preserved-in-Down : goal.loop-left-preserved-in-Down
 loop-left-preserved-in-Down c =
     let a = c.args in
     let l = c.loop-left in
-    let q = down c in
+    let q = sym c.line_at.ensures ∙ c.in-Down.is in
     let i = line_in _ _ _ _ _ q in
-    (i.0, omega (arith, i.1), l.invariant.2, l.invariant.3 ∙ ap (λ (k : Walk). seen a.pass k l.picture) (lines_down a.width _ _ _ _ _ c.loop-left-test.true _ q (down-far c) i.1))
+    (i.0, omega (arith, i.1), l.invariant.2, l.invariant.3 ∙ ap (λ (k : Walk). seen a.pass k l.picture) (lines_down a.width _ _ _ _ _ c.loop-left-test.true _ q (line_down _ _ _ _ _ (sym c.line_at.ensures ∙ c.in-Down.is) (λ i. omega (arith, c.type_inv.body i))) i.1))
 
 pub walk_line-requires : goal.walk_line-requires
 walk_line-requires c =
     let a = c.args in
     let p = c.requires in
     let l = c.loop-left in
-    let i = line_in _ _ _ _ _ (across c) in
+    let i = line_in _ _ _ _ _ (sym c.line_at.ensures ∙ c.in-Row.is) in
     (i.0, p.0, p.1, omega (arith, i.1, p.2), λ e. omega (arith, row_in a.width a.height l.row i.1, l.invariant.2, p.3 e))
 
 pub returns-in-Fault-walk_line : goal.returns-in-Fault-walk_line
 returns-in-Fault-walk_line c =
     let a = c.args in
     let l = c.loop-left in
-    let q = across c in
+    let q = sym c.line_at.ensures ∙ c.in-Row.is in
     let out = c.walk_line in
     seen_gives _ _ _ _ _ (l.invariant.3 ∙ lines_stopped a.width a.height a.body.now l.left l.row l.at c.loop-left-test.true _ _ _ q (line_in _ _ _ _ _ q).1 a.pass l.picture out.new.picture out.ensures.writes _ (sym out.ensures.verdict ∙ c.in-Fault-walk_line.is))
 
 pub overflow_add-row-in-Ends : goal.overflow_add-row-in-Ends
-overflow_add-row-in-Ends c = omega (arith, (line_in _ _ _ _ _ (across c)).1)
+overflow_add-row-in-Ends c = omega (arith, (line_in _ _ _ _ _ (sym c.line_at.ensures ∙ c.in-Row.is)).1)
 
 pub overflow_sub-left : goal.overflow_sub-left
 overflow_sub-left c = omega (arith, c.loop-left-test.true)
 
 pub loop-left-smaller : goal.loop-left-smaller
-loop-left-smaller c = omega (arith, (line_in _ _ _ _ _ (across c)).1, c.loop-left-test.true)
+loop-left-smaller c = omega (arith, (line_in _ _ _ _ _ (sym c.line_at.ensures ∙ c.in-Row.is)).1, c.loop-left-test.true)
 
 pub loop-left-preserved : goal.loop-left-preserved
 loop-left-preserved c =
     let a = c.args in
     let l = c.loop-left in
-    let q = across c in
+    let q = sym c.line_at.ensures ∙ c.in-Row.is in
     let i = line_in _ _ _ _ _ q in
     let out = c.walk_line in
     let v = sym out.ensures.verdict ∙ c.in-Ends.is in (

@@ -20,85 +20,74 @@ shown c = state c.args.shown-picture.now c.args.shown-palette.now
 abbrev next : tie.Start → State
 next c = state c.args.next-picture.now c.args.next-palette.now
 
--- every check was passed
-passed : (c : tie.Else5) → let a = c.before.before.before.before.before.before.before.before.before.before.before.before.before.before.before.before.before in Passed a.args.reel a.args.bytes.now (shown a) (next a)
-passed c =
-    record {
-      taken = sym c.before.before.before.before.before.before.before.before.before.before.add_ok.ensures ∙ not-false _ c.before.before.before.before.before.before.before.before.before.if1.false;
-      sized = sym c.before.before.before.before.before.before.before.before.size-fits.ensures ∙ not-false _ c.before.before.before.before.before.before.before.if2.false;
-      shown = sym c.before.before.before.before.before.holds.ensures ∙ not-false _ c.before.before.before.before.if3.false;
-      next = sym c.before.before.before.holds2.ensures ∙ not-false _ c.before.before.if4.false;
-      ended = sym c.before.end-ok.ensures ∙ not-false _ c.if5.false;
-    }
-
 pub returns-then-not-add_ok : goal.returns-then-not-add_ok
 returns-then-not-add_ok c =
     let a = c in
     refused_keeps _ _ _ _ c.refused.ensures (lent_bytes a.args.bytes.now)
-    ∙ sym (add_closed a.args.reel a.args.bytes.now (shown a) (next a) (sym c.add_ok.ensures ∙ not-true _ c.if-not-add_ok.true))
+    ∙ sym (add_closed a.args.reel a.args.bytes.now (shown a) (next a) (sym c.add_ok.ensures ∙ c.if-not-add_ok.true))
 
 pub returns-then-not-size_fits : goal.returns-then-not-size_fits
 returns-then-not-size_fits c =
     let a = c in
     refused_keeps _ _ _ _ c.refused-then-not-size_fits.ensures (lent_bytes a.args.bytes.now)
-    ∙ sym (add_size a.args.reel a.args.bytes.now (shown a) (next a) (sym c.add_ok.ensures ∙ not-false _ c.if-not-add_ok.false) (sym c.size_fits.ensures ∙ not-true _ c.if-not-size_fits.true))
+    ∙ sym (add_size a.args.reel a.args.bytes.now (shown a) (next a) (sym c.add_ok.ensures ∙ c.if-not-add_ok.false) (sym c.size_fits.ensures ∙ c.if-not-size_fits.true))
 
 pub overflow_mul-n : goal.overflow_mul-n
-overflow_mul-n c = let z = c.args.reel.size in omega (arith, (size_in_lem z (sym c.size_fits.ensures ∙ not-false _ c.if-not-size_fits.false)).area)
+overflow_mul-n c = let z = c.args.reel.size in omega (arith, (size_in_lem z (sym c.size_fits.ensures ∙ c.if-not-size_fits.false)).area)
 
 pub returns-then-not-holds : goal.returns-then-not-holds
 returns-then-not-holds c =
     let a = c in
     refused_keeps _ _ _ _ c.refused-then-not-holds.ensures (lent_bytes a.args.bytes.now)
-    ∙ sym (add_short a.args.reel a.args.bytes.now (shown a) (next a) (sym c.add_ok.ensures ∙ not-false _ c.if-not-add_ok.false) (sym c.size_fits.ensures ∙ not-false _ c.if-not-size_fits.false)
-    (sym c.holds.ensures ∙ not-true _ c.if-not-holds.true))
+    ∙ sym (add_short a.args.reel a.args.bytes.now (shown a) (next a) (sym c.add_ok.ensures ∙ c.if-not-add_ok.false) (sym c.size_fits.ensures ∙ c.if-not-size_fits.false)
+    (sym c.holds.ensures ∙ c.if-not-holds.true))
 
 pub returns-then-not-holds-2 : goal.returns-then-not-holds-2
 returns-then-not-holds-2 c =
     let a = c in
     refused_keeps _ _ _ _ c.refused-then-not-holds-2.ensures (lent_bytes a.args.bytes.now)
-    ∙ sym (add_next_short a.args.reel a.args.bytes.now (shown a) (next a) (sym c.add_ok.ensures ∙ not-false _ c.if-not-add_ok.false) (sym c.size_fits.ensures ∙ not-false _ c.if-not-size_fits.false)
-    (sym c.holds.ensures ∙ not-false _ c.if-not-holds.false) (sym c.holds-2.ensures ∙ not-true _ c.if-not-holds-2.true))
+    ∙ sym (add_next_short a.args.reel a.args.bytes.now (shown a) (next a) (sym c.add_ok.ensures ∙ c.if-not-add_ok.false) (sym c.size_fits.ensures ∙ c.if-not-size_fits.false)
+    (sym c.holds.ensures ∙ c.if-not-holds.false) (sym c.holds-2.ensures ∙ c.if-not-holds-2.true))
 
 pub returns-then-not-end_ok : goal.returns-then-not-end_ok
 returns-then-not-end_ok c =
     let a = c in
     refused_keeps _ _ _ _ c.refused-then-not-end_ok.ensures (lent_bytes a.args.bytes.now)
-    ∙ sym (add_record a.args.reel a.args.bytes.now (shown a) (next a) (sym c.add_ok.ensures ∙ not-false _ c.if-not-add_ok.false) (sym c.size_fits.ensures ∙ not-false _ c.if-not-size_fits.false)
-    (sym c.holds.ensures ∙ not-false _ c.if-not-holds.false) (sym c.holds-2.ensures ∙ not-false _ c.if-not-holds-2.false) (sym c.end_ok.ensures ∙ not-true _ c.if-not-end_ok.true))
+    ∙ sym (add_record a.args.reel a.args.bytes.now (shown a) (next a) (sym c.add_ok.ensures ∙ c.if-not-add_ok.false) (sym c.size_fits.ensures ∙ c.if-not-size_fits.false)
+    (sym c.holds.ensures ∙ c.if-not-holds.false) (sym c.holds-2.ensures ∙ c.if-not-holds-2.false) (sym c.end_ok.ensures ∙ c.if-not-end_ok.true))
 
 pub slice_bounds-append-end : goal.slice_bounds-append-end
-slice_bounds-append-end c = let a = c in (enough_in (area a.args.reel.size) (shown a) (passed (c)).shown).0
+slice_bounds-append-end c = let a = c in (enough_in (area a.args.reel.size) (shown a) (record { taken = sym c.add_ok.ensures ∙ c.if-not-add_ok.false; sized = sym c.size_fits.ensures ∙ c.if-not-size_fits.false; shown = sym c.holds.ensures ∙ c.if-not-holds.false; next = sym c.holds-2.ensures ∙ c.if-not-holds-2.false; ended = sym c.end_ok.ensures ∙ c.if-not-end_ok.false; }).shown).0
 
 pub slice_bounds-append-end-2 : goal.slice_bounds-append-end-2
-slice_bounds-append-end-2 c = let a = c in (enough_in (area a.args.reel.size) (shown a) (passed (c)).shown).1
+slice_bounds-append-end-2 c = let a = c in (enough_in (area a.args.reel.size) (shown a) (record { taken = sym c.add_ok.ensures ∙ c.if-not-add_ok.false; sized = sym c.size_fits.ensures ∙ c.if-not-size_fits.false; shown = sym c.holds.ensures ∙ c.if-not-holds.false; next = sym c.holds-2.ensures ∙ c.if-not-holds-2.false; ended = sym c.end_ok.ensures ∙ c.if-not-end_ok.false; }).shown).1
 
 pub slice_bounds-append-end-3 : goal.slice_bounds-append-end-3
-slice_bounds-append-end-3 c = let a = c in (enough_in (area a.args.reel.size) (next a) (passed (c)).next).0
+slice_bounds-append-end-3 c = let a = c in (enough_in (area a.args.reel.size) (next a) (record { taken = sym c.add_ok.ensures ∙ c.if-not-add_ok.false; sized = sym c.size_fits.ensures ∙ c.if-not-size_fits.false; shown = sym c.holds.ensures ∙ c.if-not-holds.false; next = sym c.holds-2.ensures ∙ c.if-not-holds-2.false; ended = sym c.end_ok.ensures ∙ c.if-not-end_ok.false; }).next).0
 
 pub slice_bounds-append-end-4 : goal.slice_bounds-append-end-4
-slice_bounds-append-end-4 c = let a = c in (enough_in (area a.args.reel.size) (next a) (passed (c)).next).1
+slice_bounds-append-end-4 c = let a = c in (enough_in (area a.args.reel.size) (next a) (record { taken = sym c.add_ok.ensures ∙ c.if-not-add_ok.false; sized = sym c.size_fits.ensures ∙ c.if-not-size_fits.false; shown = sym c.holds.ensures ∙ c.if-not-holds.false; next = sym c.holds-2.ensures ∙ c.if-not-holds-2.false; ended = sym c.end_ok.ensures ∙ c.if-not-end_ok.false; }).next).1
 
 pub append-requires : goal.append-requires
 append-requires c =
     let a = c in
     let z = a.args.reel.size in
-    let p = passed (c) in (
+    let p = record { taken = sym c.add_ok.ensures ∙ c.if-not-add_ok.false; sized = sym c.size_fits.ensures ∙ c.if-not-size_fits.false; shown = sym c.holds.ensures ∙ c.if-not-holds.false; next = sym c.holds-2.ensures ∙ c.if-not-holds-2.false; ended = sym c.end_ok.ensures ∙ c.if-not-end_ok.false; } in (
       (end_in a.args.reel.end (length a.args.bytes.now) p.ended).1,
       front_exact z (shown a) p.sized (area z - 0) (omega arith) p.shown,
       front_exact z (next a) p.sized (area z - 0) (omega arith) p.next,
     )
 
 pub overflow_add-result : goal.overflow_add-result
-overflow_add-result c = let r = c.args.reel in omega (arith, add_few r.frames r.closed (passed (c)).taken)
+overflow_add-result c = let r = c.args.reel in omega (arith, add_few r.frames r.closed (record { taken = sym c.add_ok.ensures ∙ c.if-not-add_ok.false; sized = sym c.size_fits.ensures ∙ c.if-not-size_fits.false; shown = sym c.holds.ensures ∙ c.if-not-holds.false; next = sym c.holds-2.ensures ∙ c.if-not-holds-2.false; ended = sym c.end_ok.ensures ∙ c.if-not-end_ok.false; }).taken)
 
 pub returns-in-Refused : goal.returns-in-Refused
 returns-in-Refused c =
     let a = c in
     refused_keeps _ _ _ _ c.refused-in-Refused.ensures (lent_bytes c.append.new.bytes)
-    ∙ add_stopped a.args.reel a.args.bytes.now (shown a) (next a) (passed (c)) c.append.result c.append.new.bytes (area a.args.reel.size - 0) (omega arith) c.append.ensures _ _ c.in-Refused.is
+    ∙ add_stopped a.args.reel a.args.bytes.now (shown a) (next a) (record { taken = sym c.add_ok.ensures ∙ c.if-not-add_ok.false; sized = sym c.size_fits.ensures ∙ c.if-not-size_fits.false; shown = sym c.holds.ensures ∙ c.if-not-holds.false; next = sym c.holds-2.ensures ∙ c.if-not-holds-2.false; ended = sym c.end_ok.ensures ∙ c.if-not-end_ok.false; }) c.append.result c.append.new.bytes (area a.args.reel.size - 0) (omega arith) c.append.ensures _ _ c.in-Refused.is
 
 pub returns-in-Done : goal.returns-in-Done
 returns-in-Done c =
     let a = c in
-    add_done a.args.reel a.args.bytes.now (shown a) (next a) (passed (c)) c.append.result c.append.new.bytes (area a.args.reel.size - 0) (omega arith) c.append.ensures _ c.in-Done.is
+    add_done a.args.reel a.args.bytes.now (shown a) (next a) (record { taken = sym c.add_ok.ensures ∙ c.if-not-add_ok.false; sized = sym c.size_fits.ensures ∙ c.if-not-size_fits.false; shown = sym c.holds.ensures ∙ c.if-not-holds.false; next = sym c.holds-2.ensures ∙ c.if-not-holds-2.false; ended = sym c.end_ok.ensures ∙ c.if-not-end_ok.false; }) c.append.result c.append.new.bytes (area a.args.reel.size - 0) (omega arith) c.append.ensures _ c.in-Done.is

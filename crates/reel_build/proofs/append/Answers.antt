@@ -15,10 +15,6 @@ use Rattle.reel_build.proofs.append.Goals as goal
 abbrev asked : tie.Start → List ℕ
 asked c = let a = c.args in house_frame a.size (state a.previous-picture.now a.previous-palette.now) (state a.next-picture.now a.next-palette.now)
 
--- the part from end on reaches as far as a file may
-reach : (c : tie.Else1) → c.before.before.before.before.before.before.before.args.end + (c.before.longest-in.result - c.before.before.before.before.before.before.before.args.end) ≡ longest (length c.before.before.before.before.before.before.before.args.bytes.now)
-reach c = omega (arith, c.before.longest-in.ensures)
-
 pub returns-then-longest-end : goal.returns-then-longest-end
 returns-then-longest-end c = append_none c.args.end (asked (c)) c.args.bytes.now (omega (arith, c.longest_in-longest.ensures))
 
@@ -29,16 +25,16 @@ pub overflow_add-result : goal.overflow_add-result
 overflow_add-result c =
     let a = c.args in
     let w = c.write_house in
-    omega (arith, (append_more a.bytes.now (asked (c)) a.end (c.longest_in-longest.result - a.end) (reach (c)) w.result w.new.out w.ensures _ c.in-Done.is).1)
+    omega (arith, (append_more a.bytes.now (asked (c)) a.end (c.longest_in-longest.result - a.end) (omega (arith, c.longest_in-longest.ensures)) w.result w.new.out w.ensures _ c.in-Done.is).1)
 
 pub returns-in-Refused : goal.returns-in-Refused
 returns-in-Refused c =
     let a = c.args in
     let w = c.write_house in
-    append_stopped a.bytes.now (asked (c)) a.end (c.longest_in-longest.result - a.end) (reach (c)) w.result w.new.out w.ensures _ _ c.in-Refused.is
+    append_stopped a.bytes.now (asked (c)) a.end (c.longest_in-longest.result - a.end) (omega (arith, c.longest_in-longest.ensures)) w.result w.new.out w.ensures _ _ c.in-Refused.is
 
 pub returns-in-Done : goal.returns-in-Done
 returns-in-Done c =
     let a = c.args in
     let w = c.write_house in
-    (append_more a.bytes.now (asked (c)) a.end (c.longest_in-longest.result - a.end) (reach (c)) w.result w.new.out w.ensures _ c.in-Done.is).0
+    (append_more a.bytes.now (asked (c)) a.end (c.longest_in-longest.result - a.end) (omega (arith, c.longest_in-longest.ensures)) w.result w.new.out w.ensures _ c.in-Done.is).0

@@ -15,37 +15,33 @@ use Rattle.reel_header.proofs.Laws.{opened_fli_length}
 use Rattle.reel_build.proofs.Laws.{refused_none, opening_short, opening_done, open_fli_is}
 use Rattle.reel_build.proofs.open_fli.Goals as goal
 
--- the size is in range
-sized : (c : tie.Else1) → size_fits (size_of Fli c.before.before.before.args.width c.before.before.before.args.height) ≡ true
-sized c = sym c.before.size-fits.ensures ∙ not-false _ c.if1.false
-
 pub returns-then-not-size_fits : goal.returns-then-not-size_fits
 returns-then-not-size_fits c =
     let a = c.args in
     refused_none _ _ _ _ c.refused.ensures c.no_reel.ensures (lent_bytes a.bytes.now)
-    ∙ open_fli_is a.width a.height a.bytes.now false a.delay _ (sym c.size_fits.ensures ∙ not-true _ c.if-not-size_fits.true) refl
+    ∙ open_fli_is a.width a.height a.bytes.now false a.delay _ (sym c.size_fits.ensures ∙ c.if-not-size_fits.true) refl
 
 pub returns-then-delay-gt65535 : goal.returns-then-delay-gt65535
 returns-then-delay-gt65535 c =
     let a = c.args in
     refused_none _ _ _ _ c.refused-then-delay-gt65535.ensures c.no_reel-then-delay-gt65535.ensures (lent_bytes a.bytes.now)
-    ∙ open_fli_is a.width a.height a.bytes.now true a.delay false (sized c) (lt-leb a.delay 65535 c.if-delay-gt65535.true)
+    ∙ open_fli_is a.width a.height a.bytes.now true a.delay false (sym c.size_fits.ensures ∙ c.if-not-size_fits.false) (lt-leb a.delay 65535 c.if-delay-gt65535.true)
 
 pub returns-then-bytes-lt-HEADER_BYTES : goal.returns-then-bytes-lt-HEADER_BYTES
 returns-then-bytes-lt-HEADER_BYTES c =
     let a = c.args in
     refused_none _ _ _ _ c.refused-then-bytes-lt-HEADER_BYTES.ensures c.no_reel-then-bytes-lt-HEADER_BYTES.ensures (lent_bytes a.bytes.now)
     ∙ sym (opening_short (size_of Fli a.width a.height) (opened_fli a.width a.height (jiffies a.delay)) a.bytes.now c.if-bytes-lt-HEADER_BYTES.true)
-    ∙ open_fli_is a.width a.height a.bytes.now true a.delay true (sized c) (le-leb a.delay 65535 c.if-delay-gt65535.false)
+    ∙ open_fli_is a.width a.height a.bytes.now true a.delay true (sym c.size_fits.ensures ∙ c.if-not-size_fits.false) (le-leb a.delay 65535 c.if-delay-gt65535.false)
 
 pub write_fli_header-requires : goal.write_fli_header-requires
 write_fli_header-requires c =
     let a = c.args in
-    let s = size_in_lem (size_of Fli a.width a.height) (sized c) in
+    let s = size_in_lem (size_of Fli a.width a.height) (sym c.size_fits.ensures ∙ c.if-not-size_fits.false) in
     (length-take-le 128 a.bytes.now c.if-bytes-lt-HEADER_BYTES.false, omega (arith, s.wide), omega (arith, s.high))
 
 pub returns : goal.returns
 returns c =
     let a = c.args in
     opening_done (size_of Fli a.width a.height) (opened_fli a.width a.height (jiffies a.delay)) a.bytes.now (opened_fli_length a.width a.height (jiffies a.delay)) c.if-bytes-lt-HEADER_BYTES.false c.write_fli_header.new.out c.write_fli_header.ensures c.new_reel.result c.new_reel.ensures
-    ∙ open_fli_is a.width a.height a.bytes.now true a.delay true (sized c) (le-leb a.delay 65535 c.if-delay-gt65535.false)
+    ∙ open_fli_is a.width a.height a.bytes.now true a.delay true (sym c.size_fits.ensures ∙ c.if-not-size_fits.false) (le-leb a.delay 65535 c.if-delay-gt65535.false)

@@ -14,31 +14,27 @@ use Rattle.reel_header.proofs.Laws.{opened_length}
 use Rattle.reel_build.proofs.Laws.{refused_none, opening_short, opening_done, open_is}
 use Rattle.reel_build.proofs.open_reel.Goals as goal
 
--- the size is in range
-sized : (c : tie.Else1) → size_fits (size_of Flc c.before.before.before.args.width c.before.before.before.args.height) ≡ true
-sized c = sym c.before.size-fits.ensures ∙ not-false _ c.if1.false
-
 pub returns-then-not-size_fits : goal.returns-then-not-size_fits
 returns-then-not-size_fits c =
     let a = c.args in
     refused_none _ _ _ _ c.refused.ensures c.no_reel.ensures (lent_bytes a.bytes.now)
-    ∙ open_is a.width a.height a.bytes.now false a.speed (sym c.size_fits.ensures ∙ not-true _ c.if-not-size_fits.true)
+    ∙ open_is a.width a.height a.bytes.now false a.speed (sym c.size_fits.ensures ∙ c.if-not-size_fits.true)
 
 pub returns-then-bytes-lt-HEADER_BYTES : goal.returns-then-bytes-lt-HEADER_BYTES
 returns-then-bytes-lt-HEADER_BYTES c =
     let a = c.args in
     refused_none _ _ _ _ c.refused-then-bytes-lt-HEADER_BYTES.ensures c.no_reel-then-bytes-lt-HEADER_BYTES.ensures (lent_bytes a.bytes.now)
     ∙ sym (opening_short (size_of Flc a.width a.height) (opened a.width a.height a.speed) a.bytes.now c.if-bytes-lt-HEADER_BYTES.true)
-    ∙ open_is a.width a.height a.bytes.now true a.speed (sized c)
+    ∙ open_is a.width a.height a.bytes.now true a.speed (sym c.size_fits.ensures ∙ c.if-not-size_fits.false)
 
 pub write_header-requires : goal.write_header-requires
 write_header-requires c =
     let a = c.args in
-    let s = size_in_lem (size_of Flc a.width a.height) (sized c) in
+    let s = size_in_lem (size_of Flc a.width a.height) (sym c.size_fits.ensures ∙ c.if-not-size_fits.false) in
     (length-take-le 128 a.bytes.now c.if-bytes-lt-HEADER_BYTES.false, omega (arith, s.wide), omega (arith, s.high))
 
 pub returns : goal.returns
 returns c =
     let a = c.args in
     opening_done (size_of Flc a.width a.height) (opened a.width a.height a.speed) a.bytes.now (opened_length a.width a.height a.speed) c.if-bytes-lt-HEADER_BYTES.false c.write_header.new.out c.write_header.ensures c.new_reel.result c.new_reel.ensures
-    ∙ open_is a.width a.height a.bytes.now true a.speed (sized c)
+    ∙ open_is a.width a.height a.bytes.now true a.speed (sym c.size_fits.ensures ∙ c.if-not-size_fits.false)

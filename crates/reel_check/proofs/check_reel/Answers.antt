@@ -17,66 +17,52 @@ use Rattle.reel_check.proofs.Laws.{check_fault, check_short, check_second_short,
 use borrow.Author.Rules.{rules}
 use Rattle.reel_check.proofs.check_reel.Goals as goal
 
--- the header is a reel's
-headed : (c : tie.After-known-told2) → let g = c.before.picture.given.0 in head_of Both c.before.before.before.before.before.before.before.before.before.args.bytes.now ≡ Reel g.0 g.1.0 g.1.1.0 g.1.1.1.0
-headed c = sym c.before.before.before.head_of.ensures ∙ c.before.picture.given.1
-
-inside : (c : tie.After-known-told2) → let g = c.before.picture.given.0 in ReelIn c.before.before.before.before.before.before.before.before.before.args.bytes.now g.0 g.1.0 g.1.1.0
-inside c = head_in _ _ _ (headed c)
-
--- the first pair is long enough, and so is the second
-first : (c : tie.Else2) → let g = c.before.before.before.before.before.before.picture.given.0 in enough (area g.0) (state c.before.before.before.before.before.before.before.before.before.before.before.before.before.before.args.first-picture.now c.before.before.before.before.before.before.before.before.before.before.before.before.before.before.args.first-palette.now) ≡ true
-first c = sym c.before.before.before.holds.ensures ∙ not-false _ c.before.before.if1.false
-
-second : (c : tie.Else2) → let g = c.before.before.before.before.before.before.picture.given.0 in enough (area g.0) (state c.before.before.before.before.before.before.before.before.before.before.before.before.before.before.args.second-picture.now c.before.before.before.before.before.before.before.before.before.before.before.before.before.before.args.second-palette.now) ≡ true
-second c = sym c.before.holds2.ensures ∙ not-false _ c.if2.false
-
 pub overflow_mul-n : goal.overflow_mul-n
-overflow_mul-n c = let g = c.in-Reel.given.0 in omega (arith, (size_in_lem g.0 (inside c).sized).area)
+overflow_mul-n c = let g = c.in-Reel.given.0 in omega (arith, (size_in_lem g.0 (head_in _ _ _ (sym c.head_of.ensures ∙ c.in-Reel.is)).sized).area)
 
 pub returns-then-not-holds : goal.returns-then-not-holds
 returns-then-not-holds c =
     let a = c.args in
-    sym (check_short a.bytes.now (state a.first-picture.now a.first-palette.now) (state a.second-picture.now a.second-palette.now) _ _ _ _ (headed c) (sym c.holds.ensures ∙ not-true _ c.if-not-holds.true))
+    sym (check_short a.bytes.now (state a.first-picture.now a.first-palette.now) (state a.second-picture.now a.second-palette.now) _ _ _ _ (sym c.head_of.ensures ∙ c.in-Reel.is) (sym c.holds.ensures ∙ c.if-not-holds.true))
 
 pub returns-then-not-holds-2 : goal.returns-then-not-holds-2
 returns-then-not-holds-2 c =
     let a = c.args in
-    sym (check_second_short a.bytes.now (state a.first-picture.now a.first-palette.now) (state a.second-picture.now a.second-palette.now) _ _ _ _ (headed c) (sym c.holds.ensures ∙ not-false _ c.if-not-holds.false) (sym c.holds-in-Reel.ensures ∙ not-true _ c.if-not-holds-2.true))
+    sym (check_second_short a.bytes.now (state a.first-picture.now a.first-palette.now) (state a.second-picture.now a.second-palette.now) _ _ _ _ (sym c.head_of.ensures ∙ c.in-Reel.is) (sym c.holds.ensures ∙ c.if-not-holds.false) (sym c.holds-in-Reel.ensures ∙ c.if-not-holds-2.true))
 
 pub slice_bounds-check_frames-end : goal.slice_bounds-check_frames-end
 slice_bounds-check_frames-end c =
     let g = c.in-Reel.given.0 in
-    (enough_in (area g.0) (state c.args.first-picture.now c.args.first-palette.now) (first c)).0
+    (enough_in (area g.0) (state c.args.first-picture.now c.args.first-palette.now) (sym c.holds.ensures ∙ c.if-not-holds.false)).0
 
 pub slice_bounds-check_frames-end-in-Reel : goal.slice_bounds-check_frames-end-in-Reel
 slice_bounds-check_frames-end-in-Reel c =
     let g = c.in-Reel.given.0 in
-    (enough_in (area g.0) (state c.args.first-picture.now c.args.first-palette.now) (first c)).1
+    (enough_in (area g.0) (state c.args.first-picture.now c.args.first-palette.now) (sym c.holds.ensures ∙ c.if-not-holds.false)).1
 
 pub slice_bounds-check_frames-end-in-Reel-2 : goal.slice_bounds-check_frames-end-in-Reel-2
 slice_bounds-check_frames-end-in-Reel-2 c =
     let g = c.in-Reel.given.0 in
-    (enough_in (area g.0) (state c.args.second-picture.now c.args.second-palette.now) (second c)).0
+    (enough_in (area g.0) (state c.args.second-picture.now c.args.second-palette.now) (sym c.holds-in-Reel.ensures ∙ c.if-not-holds-2.false)).0
 
 pub slice_bounds-check_frames-end-in-Reel-3 : goal.slice_bounds-check_frames-end-in-Reel-3
 slice_bounds-check_frames-end-in-Reel-3 c =
     let g = c.in-Reel.given.0 in
-    (enough_in (area g.0) (state c.args.second-picture.now c.args.second-palette.now) (second c)).1
+    (enough_in (area g.0) (state c.args.second-picture.now c.args.second-palette.now) (sym c.holds-in-Reel.ensures ∙ c.if-not-holds-2.false)).1
 
 pub slice_bounds-check_frames-end-in-Reel-4 : goal.slice_bounds-check_frames-end-in-Reel-4
-slice_bounds-check_frames-end-in-Reel-4 c = (inside c).most
+slice_bounds-check_frames-end-in-Reel-4 c = (head_in _ _ _ (sym c.head_of.ensures ∙ c.in-Reel.is)).most
 
 pub check_frames-requires : goal.check_frames-requires
 check_frames-requires c =
     let a = c.args in
     let g = c.in-Reel.given.0 in
-    let i = inside c in
+    let i = head_in _ _ _ (sym c.head_of.ensures ∙ c.in-Reel.is) in
     let n = area g.0 in
     let size = g.1.1.0 in (
       omega (arith, i.least, span_length a.bytes.now 0 size size i.most (omega arith)),
-      front_exact g.0 (state a.first-picture.now a.first-palette.now) i.sized (n - 0) (omega arith) (first c),
-      front_exact g.0 (state a.second-picture.now a.second-palette.now) i.sized (n - 0) (omega arith) (second c),
+      front_exact g.0 (state a.first-picture.now a.first-palette.now) i.sized (n - 0) (omega arith) (sym c.holds.ensures ∙ c.if-not-holds.false),
+      front_exact g.0 (state a.second-picture.now a.second-palette.now) i.sized (n - 0) (omega arith) (sym c.holds-in-Reel.ensures ∙ c.if-not-holds-2.false),
     )
 
 pub returns-in-Fault : goal.returns-in-Fault
@@ -89,5 +75,5 @@ returns-else-not-holds-2 c =
     let a = c.args in
     let g = c.in-Reel.given.0 in
     let f = c.check_frames in
-    check_laid a.bytes.now (state a.first-picture.now a.first-palette.now) (state a.second-picture.now a.second-palette.now) g.0 g.1.0 g.1.1.0 g.1.1.1.0 (headed c) (first c) (second c)
+    check_laid a.bytes.now (state a.first-picture.now a.first-palette.now) (state a.second-picture.now a.second-palette.now) g.0 g.1.0 g.1.1.0 g.1.1.1.0 (sym c.head_of.ensures ∙ c.in-Reel.is) (sym c.holds.ensures ∙ c.if-not-holds.false) (sym c.holds-in-Reel.ensures ∙ c.if-not-holds-2.false)
     (area g.0 - 0) (g.1.1.0 - 0) (omega arith) (omega arith) f.result _ _ f.ensures.answer f.ensures.first.0 f.ensures.first.1

@@ -19,24 +19,20 @@ use Rattle.reel_build.proofs.Laws.{refused_keeps, end_in}
 use Rattle.reel_close.proofs.Laws.{all_long, own_record, own_played, own_told, frames_stopped, frames_early, frames_ringed}
 use Rattle.reel_close.proofs.close_frames.Goals as goal
 
--- the record ends within the bytes
-inside : (c : tie.Else1) → end_ok c.before.before.before.before.before.before.before.before.before.args.reel.end (length c.before.before.before.before.before.before.before.before.before.args.bytes.now) ≡ true
-inside c = sym c.before.end-ok.ensures ∙ not-false _ c.if1.false
-
 pub returns-then-not-end_ok : goal.returns-then-not-end_ok
 returns-then-not-end_ok c =
     let a = c.args in
     own_told a.reel a.bytes.now (shown (Stopped Cut 0) (state c.clear.new.picture c.clear.new.palette) (state c.clear-then-not-end_ok.new.picture c.clear-then-not-end_ok.new.palette))
-    (own_record a.reel a.bytes.now (sym c.end_ok.ensures ∙ not-true _ c.if-not-end_ok.true) ∙ ap₂ (λ (s t : State). shown (Stopped Cut 0) s t) (sym c.clear.ensures) (sym c.clear-then-not-end_ok.ensures))
+    (own_record a.reel a.bytes.now (sym c.end_ok.ensures ∙ c.if-not-end_ok.true) ∙ ap₂ (λ (s t : State). shown (Stopped Cut 0) s t) (sym c.clear.ensures) (sym c.clear-then-not-end_ok.ensures))
     _ (refused_keeps _ _ _ _ c.refused.ensures (lent_bytes a.bytes.now))
 
 pub slice_bounds-play_all-end : goal.slice_bounds-play_all-end
-slice_bounds-play_all-end c = (end_in c.args.reel.end (length c.args.bytes.now) (inside (c))).1
+slice_bounds-play_all-end c = (end_in c.args.reel.end (length c.args.bytes.now) (sym c.end_ok.ensures ∙ c.if-not-end_ok.false)).1
 
 pub play_all-requires : goal.play_all-requires
 play_all-requires c =
     let a = c.args in
-    let i = end_in a.reel.end (length a.bytes.now) (inside (c)) in
+    let i = end_in a.reel.end (length a.bytes.now) (sym c.end_ok.ensures ∙ c.if-not-end_ok.false) in
     (omega (arith, i.0, length-take-le (a.reel.end - 0) a.bytes.now (omega (arith, i.1))), c.requires.2, c.requires.3)
 
 pub returns-then-next-end : goal.returns-then-next-end
@@ -45,14 +41,14 @@ returns-then-next-end c =
     let p = c.play_all in
     let s = state p.new.picture p.new.palette in
     let t = state p.new.picture2 p.new.palette2 in
-    own_told a.reel a.bytes.now (shown p.result s t) (own_played a.reel a.bytes.now (inside (c)) (a.reel.end - 0) (omega arith) _ p.ensures)
+    own_told a.reel a.bytes.now (shown p.result s t) (own_played a.reel a.bytes.now (sym c.end_ok.ensures ∙ c.if-not-end_ok.false) (a.reel.end - 0) (omega arith) _ p.ensures)
     _ (refused_keeps _ _ _ _ c.refused-then-next-end.ensures (lent_bytes a.bytes.now) ∙ frames_early a.reel a.bytes.now p.result s t _ _ c.in-To.is c.if-next-end.true)
 
 pub put_ring-requires : goal.put_ring-requires
 put_ring-requires c =
     let a = c.args in
     let p = c.play_all in
-    let i = end_in a.reel.end (length a.bytes.now) (inside (c)) in
+    let i = end_in a.reel.end (length a.bytes.now) (sym c.end_ok.ensures ∙ c.if-not-end_ok.false) in
     let l = length-take-le (a.reel.end - 0) a.bytes.now (omega (arith, i.1)) in
     let long = all_long Packed (a.reel.frames - 1) a.reel.size (take (a.reel.end - 0) a.bytes.now) _ _ (omega (arith, i.0, l)) (ap (λ (x : Shown). x.result) (sym p.ensures) ∙ c.in-To.is) in (
       omega (arith, long, l),
@@ -68,7 +64,7 @@ returns-in-Stopped c =
     let p = c.play_all in
     let s = state p.new.picture p.new.palette in
     let t = state p.new.picture2 p.new.palette2 in
-    own_told a.reel a.bytes.now (shown p.result s t) (own_played a.reel a.bytes.now (inside (c)) (a.reel.end - 0) (omega arith) _ p.ensures)
+    own_told a.reel a.bytes.now (shown p.result s t) (own_played a.reel a.bytes.now (sym c.end_ok.ensures ∙ c.if-not-end_ok.false) (a.reel.end - 0) (omega arith) _ p.ensures)
     _ (refused_keeps _ _ _ _ c.refused-in-Stopped.ensures (lent_bytes a.bytes.now) ∙ frames_stopped a.reel a.bytes.now p.result s t _ _ c.in-Stopped.is)
 
 pub returns-else-next-end : goal.returns-else-next-end
@@ -77,5 +73,5 @@ returns-else-next-end c =
     let p = c.play_all in
     let s = state p.new.picture p.new.palette in
     let t = state p.new.picture2 p.new.palette2 in
-    own_told a.reel a.bytes.now (shown p.result s t) (own_played a.reel a.bytes.now (inside (c)) (a.reel.end - 0) (omega arith) _ p.ensures)
+    own_told a.reel a.bytes.now (shown p.result s t) (own_played a.reel a.bytes.now (sym c.end_ok.ensures ∙ c.if-not-end_ok.false) (a.reel.end - 0) (omega arith) _ p.ensures)
     _ (c.put_ring.ensures ∙ frames_ringed a.reel a.bytes.now p.result s t _ _ c.in-To.is c.if-next-end.false)

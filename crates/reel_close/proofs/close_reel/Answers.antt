@@ -25,61 +25,51 @@ second c = state c.args.second-picture.now c.args.second-palette.now
 abbrev found : tie.Start → Memory
 found c = lent_bytes_pairs c.args.bytes.now (first c) (second c)
 
--- every check up to 1 was passed
-passed : (c : tie.Else4) → let a = c.before.before.before.before.before.before.before.before.before.before.before.before.before.before.before in Passed a.args.reel (first a) (second a)
-passed c =
-    record {
-      taken = sym c.before.before.before.before.before.before.before.before.before.close-ok.ensures ∙ not-false _ c.before.before.before.before.before.before.before.before.if1.false;
-      sized = sym c.before.before.before.before.before.before.size-fits.ensures ∙ not-false _ c.before.before.before.before.before.if2.false;
-      first_long = sym c.before.before.before.holds.ensures ∙ not-false _ c.before.before.if3.false;
-      second_long = sym c.before.holds2.ensures ∙ not-false _ c.if4.false;
-    }
-
 pub returns-then-not-close_ok : goal.returns-then-not-close_ok
 returns-then-not-close_ok c =
     let a = c in
-    refused_keeps _ _ _ _ c.refused.ensures (found a) ∙ sym (close_time a.args.reel a.args.bytes.now (first a) (second a) (sym c.close_ok.ensures ∙ not-true _ c.if-not-close_ok.true))
+    refused_keeps _ _ _ _ c.refused.ensures (found a) ∙ sym (close_time a.args.reel a.args.bytes.now (first a) (second a) (sym c.close_ok.ensures ∙ c.if-not-close_ok.true))
 
 pub returns-then-not-size_fits : goal.returns-then-not-size_fits
 returns-then-not-size_fits c =
     let a = c in
     refused_keeps _ _ _ _ c.refused-then-not-size_fits.ensures (found a)
-    ∙ sym (close_size a.args.reel a.args.bytes.now (first a) (second a) (sym c.close_ok.ensures ∙ not-false _ c.if-not-close_ok.false) (sym c.size_fits.ensures ∙ not-true _ c.if-not-size_fits.true))
+    ∙ sym (close_size a.args.reel a.args.bytes.now (first a) (second a) (sym c.close_ok.ensures ∙ c.if-not-close_ok.false) (sym c.size_fits.ensures ∙ c.if-not-size_fits.true))
 
 pub overflow_mul-n : goal.overflow_mul-n
-overflow_mul-n c = let z = c.args.reel.size in omega (arith, (size_in_lem z (sym c.size_fits.ensures ∙ not-false _ c.if-not-size_fits.false)).area)
+overflow_mul-n c = let z = c.args.reel.size in omega (arith, (size_in_lem z (sym c.size_fits.ensures ∙ c.if-not-size_fits.false)).area)
 
 pub returns-then-not-holds : goal.returns-then-not-holds
 returns-then-not-holds c =
     let a = c in
     refused_keeps _ _ _ _ c.refused-then-not-holds.ensures (found a)
-    ∙ sym (close_short a.args.reel a.args.bytes.now (first a) (second a) (sym c.close_ok.ensures ∙ not-false _ c.if-not-close_ok.false) (sym c.size_fits.ensures ∙ not-false _ c.if-not-size_fits.false)
-    (sym c.holds.ensures ∙ not-true _ c.if-not-holds.true))
+    ∙ sym (close_short a.args.reel a.args.bytes.now (first a) (second a) (sym c.close_ok.ensures ∙ c.if-not-close_ok.false) (sym c.size_fits.ensures ∙ c.if-not-size_fits.false)
+    (sym c.holds.ensures ∙ c.if-not-holds.true))
 
 pub returns-then-not-holds-2 : goal.returns-then-not-holds-2
 returns-then-not-holds-2 c =
     let a = c in
     refused_keeps _ _ _ _ c.refused-then-not-holds-2.ensures (found a)
-    ∙ sym (close_second_short a.args.reel a.args.bytes.now (first a) (second a) (sym c.close_ok.ensures ∙ not-false _ c.if-not-close_ok.false) (sym c.size_fits.ensures ∙ not-false _ c.if-not-size_fits.false)
-    (sym c.holds.ensures ∙ not-false _ c.if-not-holds.false) (sym c.holds-2.ensures ∙ not-true _ c.if-not-holds-2.true))
+    ∙ sym (close_second_short a.args.reel a.args.bytes.now (first a) (second a) (sym c.close_ok.ensures ∙ c.if-not-close_ok.false) (sym c.size_fits.ensures ∙ c.if-not-size_fits.false)
+    (sym c.holds.ensures ∙ c.if-not-holds.false) (sym c.holds-2.ensures ∙ c.if-not-holds-2.true))
 
 pub slice_bounds-close_frames-end : goal.slice_bounds-close_frames-end
-slice_bounds-close_frames-end c = let a = c in (enough_in (area a.args.reel.size) (first a) (passed (c)).first_long).0
+slice_bounds-close_frames-end c = let a = c in (enough_in (area a.args.reel.size) (first a) (record { taken = sym c.close_ok.ensures ∙ c.if-not-close_ok.false; sized = sym c.size_fits.ensures ∙ c.if-not-size_fits.false; first_long = sym c.holds.ensures ∙ c.if-not-holds.false; second_long = sym c.holds-2.ensures ∙ c.if-not-holds-2.false; }).first_long).0
 
 pub slice_bounds-close_frames-end-2 : goal.slice_bounds-close_frames-end-2
-slice_bounds-close_frames-end-2 c = let a = c in (enough_in (area a.args.reel.size) (first a) (passed (c)).first_long).1
+slice_bounds-close_frames-end-2 c = let a = c in (enough_in (area a.args.reel.size) (first a) (record { taken = sym c.close_ok.ensures ∙ c.if-not-close_ok.false; sized = sym c.size_fits.ensures ∙ c.if-not-size_fits.false; first_long = sym c.holds.ensures ∙ c.if-not-holds.false; second_long = sym c.holds-2.ensures ∙ c.if-not-holds-2.false; }).first_long).1
 
 pub slice_bounds-close_frames-end-3 : goal.slice_bounds-close_frames-end-3
-slice_bounds-close_frames-end-3 c = let a = c in (enough_in (area a.args.reel.size) (second a) (passed (c)).second_long).0
+slice_bounds-close_frames-end-3 c = let a = c in (enough_in (area a.args.reel.size) (second a) (record { taken = sym c.close_ok.ensures ∙ c.if-not-close_ok.false; sized = sym c.size_fits.ensures ∙ c.if-not-size_fits.false; first_long = sym c.holds.ensures ∙ c.if-not-holds.false; second_long = sym c.holds-2.ensures ∙ c.if-not-holds-2.false; }).second_long).0
 
 pub slice_bounds-close_frames-end-4 : goal.slice_bounds-close_frames-end-4
-slice_bounds-close_frames-end-4 c = let a = c in (enough_in (area a.args.reel.size) (second a) (passed (c)).second_long).1
+slice_bounds-close_frames-end-4 c = let a = c in (enough_in (area a.args.reel.size) (second a) (record { taken = sym c.close_ok.ensures ∙ c.if-not-close_ok.false; sized = sym c.size_fits.ensures ∙ c.if-not-size_fits.false; first_long = sym c.holds.ensures ∙ c.if-not-holds.false; second_long = sym c.holds-2.ensures ∙ c.if-not-holds-2.false; }).second_long).1
 
 pub close_frames-requires : goal.close_frames-requires
 close_frames-requires c =
     let a = c in
     let z = a.args.reel.size in
-    let p = passed (c) in
+    let p = record { taken = sym c.close_ok.ensures ∙ c.if-not-close_ok.false; sized = sym c.size_fits.ensures ∙ c.if-not-size_fits.false; first_long = sym c.holds.ensures ∙ c.if-not-holds.false; second_long = sym c.holds-2.ensures ∙ c.if-not-holds-2.false; } in
     let f = close_few a.args.reel.frames a.args.reel.closed p.taken in
     (f.0, f.1, front_exact z (first a) p.sized (area z - 0) (omega arith) p.first_long, front_exact z (second a) p.sized (area z - 0) (omega arith) p.second_long)
 
@@ -87,5 +77,5 @@ pub returns : goal.returns
 returns c =
     let a = c in
     let f = c.close_frames in
-    close_laid a.args.reel a.args.bytes.now (first a) (second a) (passed (c)) (area a.args.reel.size - 0) (omega arith)
+    close_laid a.args.reel a.args.bytes.now (first a) (second a) (record { taken = sym c.close_ok.ensures ∙ c.if-not-close_ok.false; sized = sym c.size_fits.ensures ∙ c.if-not-size_fits.false; first_long = sym c.holds.ensures ∙ c.if-not-holds.false; second_long = sym c.holds-2.ensures ∙ c.if-not-holds-2.false; }) (area a.args.reel.size - 0) (omega arith)
     (builds f.result.reel (leaves (told f.result.answer) (lent_bytes f.new.bytes))) _ _ f.ensures.bytes f.ensures.first.0 f.ensures.first.1

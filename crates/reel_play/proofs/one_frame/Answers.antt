@@ -17,27 +17,19 @@ use Rattle.reel_play.proofs.Laws.{one_fault, one_refused, one_played}
 use borrow.Author.Rules.{rules}
 use Rattle.reel_play.proofs.one_frame.Goals as goal
 
--- the step led to a frame
-stepped : (c : tie.After-known-told2) → let a = c.before.before.before.before.before.before.before.args in next_at a.layout a.b.now a.at ≡ Frame c.before.from.given.0.0 c.before.from.given.0.1.0
-stepped c = sym c.before.before.before.step-at.ensures ∙ c.before.from.given.1
-
--- it lies within the bytes
-inside : (c : tie.After-known-told2) → let a = c.before.before.before.before.before.before.before.args in NextIn a.b.now a.at (Frame c.before.from.given.0.0 c.before.from.given.0.1.0)
-inside c = next_in c.before.before.before.before.before.before.before.args.layout c.before.before.before.before.before.before.before.args.b.now c.before.before.before.before.before.before.before.args.at _ (stepped c)
-
 pub slice_bounds-play_frame-count : goal.slice_bounds-play_frame-count
-slice_bounds-play_frame-count c = omega (arith, (inside c).1)
+slice_bounds-play_frame-count c = omega (arith, (next_in c.args.layout c.args.b.now c.args.at _ (sym c.step_at.ensures ∙ c.in-Frame.is)).1)
 
 pub slice_bounds-play_frame-start : goal.slice_bounds-play_frame-start
-slice_bounds-play_frame-start c = omega (arith, (inside c).1)
+slice_bounds-play_frame-start c = omega (arith, (next_in c.args.layout c.args.b.now c.args.at _ (sym c.step_at.ensures ∙ c.in-Frame.is)).1)
 
 pub slice_bounds-play_frame-end : goal.slice_bounds-play_frame-end
-slice_bounds-play_frame-end c = (inside c).2
+slice_bounds-play_frame-end c = (next_in c.args.layout c.args.b.now c.args.at _ (sym c.step_at.ensures ∙ c.in-Frame.is)).2
 
 pub overflow_add-result : goal.overflow_add-result
 overflow_add-result c =
     let a = c.args in
-    let i = inside c in
+    let i = next_in c.args.layout c.args.b.now c.args.at _ (sym c.step_at.ensures ∙ c.in-Frame.is) in
     let from = c.in-Frame.from in
     let end = c.in-Frame.end in
     let place = refused_within a.size (part a.b.now from end) _ _ (sym c.play_frame.ensures.answer ∙ c.in-Refused.is) in
@@ -55,7 +47,7 @@ returns-in-Refused c =
     let s = state a.picture.now a.palette.now in
     let f = c.in-Frame.given.0 in
     ap (ran (Stopped _ _)) (x.ensures.state ∙ settled_refused (frame a.size (part a.b.now f.0 f.1.0)) x.result s _ _ c.in-Refused.is)
-    ∙ sym (one_refused a.layout a.size a.b.now a.at s _ _ (stepped c) _ _ (sym x.ensures.answer ∙ c.in-Refused.is))
+    ∙ sym (one_refused a.layout a.size a.b.now a.at s _ _ (sym c.step_at.ensures ∙ c.in-Frame.is) _ _ (sym x.ensures.answer ∙ c.in-Refused.is))
 
 pub returns-in-Done : goal.returns-in-Done
 returns-in-Done c =
@@ -64,4 +56,4 @@ returns-in-Done c =
     let s = state a.picture.now a.palette.now in
     let f = c.in-Frame.given.0 in
     ap (ran (To f.0 f.1.0)) (x.ensures.state ∙ settled_done (frame a.size (part a.b.now f.0 f.1.0)) x.result s c.in-Done.is)
-    ∙ sym (one_played a.layout a.size a.b.now a.at s _ _ (stepped c) (sym x.ensures.answer ∙ c.in-Done.is))
+    ∙ sym (one_played a.layout a.size a.b.now a.at s _ _ (sym c.step_at.ensures ∙ c.in-Frame.is) (sym x.ensures.answer ∙ c.in-Done.is))

@@ -10,19 +10,11 @@ use Rattle.format.specs.Limits.{area}
 use borrow.Author.Rules.{rules}
 use Rattle.reel_play.proofs.play_all.Goals as goal
 
--- frame 1 was accepted
-accepted : (c : tie.After-play-frames-arg2) → let a = c.before.before.before.before.before.before.before.before.before.before.before.before.before.before.before.before.before.before.before.before.before.before.before.args in let p = c.before.before.before.before.before.before.before.before.before.before.before.before.before.play-first in
-    one_frame a.layout a.size a.b.now 128 (blank (area a.size)) ≡ ran (To c.before.before.before.last.given.0.0 c.before.before.before.last.given.0.1.0) (state p.new.0 p.new.1.0)
-accepted c =
-    let a = c.before.before.before.before.before.before.before.before.before.before.before.before.before.before.before.before.before.before.before.before.before.before.before.args in
-    let p = c.before.before.before.before.before.before.before.before.before.before.before.before.before.play-first in
-    one_ran a.layout a.size a.b.now 128 (blank (area a.size)) p.result _ (state p.new.0 p.new.1.0) p.ensures.0 c.before.before.before.last.given.1
-
 pub play_frames-requires : goal.play_frames-requires
 play_frames-requires c =
     let a = c.args in
     let p = c.play_first in (
-      (one_in a.layout a.size a.b.now 128 (blank (area a.size)) c.requires.0 _ (ap (λ (x : Progress). x.result) (accepted c))).2,
+      (one_in a.layout a.size a.b.now 128 (blank (area a.size)) c.requires.0 _ (ap (λ (x : Progress). x.result) (let a = c.args in let p = c.play_first in one_ran a.layout a.size a.b.now 128 (blank (area a.size)) p.result _ (state p.new.picture p.new.palette) p.ensures.first c.in-To.is))).2,
       exact_kept a.size (state a.picture.now a.palette.now) c.requires.1 _ _ p.auto.picture p.auto.palette,
     )
 
@@ -40,4 +32,4 @@ returns-in-To c =
     let p = c.play_first in
     let f = c.play_frames in
     ap₂ (λ (x y : List ℕ). shown f.result (state f.new.picture f.new.palette) (state x y)) p.ensures.picture.0 p.ensures.picture.1
-    ∙ sym (all_more a.layout a.more a.size a.b.now (state p.new.picture p.new.palette) _ _ (accepted c) _ f.ensures)
+    ∙ sym (all_more a.layout a.more a.size a.b.now (state p.new.picture p.new.palette) _ _ (let a = c.args in let p = c.play_first in one_ran a.layout a.size a.b.now 128 (blank (area a.size)) p.result _ (state p.new.picture p.new.palette) p.ensures.first c.in-To.is) _ f.ensures)

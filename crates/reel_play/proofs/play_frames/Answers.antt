@@ -9,15 +9,6 @@ use Rattle.reel_play.proofs.Laws.{exact_kept, one_ran, one_in, frames_none, fram
 use borrow.Author.Rules.{rules}
 use Rattle.reel_play.proofs.play_frames.Goals as goal
 
--- the frame was accepted
-accepted : (c : tie.After-known-told2 invariant-loop decreases-loop) → let a = c.before.before.before.before.before.before.before.before.before.before.before.before.before.before.before.args in let l = c.before.before.before.before.before.before.before.before.before.before.before.loop in let p = c.before.before.before.before.before.before.before.one-frame in
-    one_frame a.layout a.size a.b.now l.at (state l.picture l.palette) ≡ ran (To c.before.from.given.0.0 c.before.from.given.0.1.0) (state p.new.0 p.new.1.0)
-accepted c =
-    let a = c.before.before.before.before.before.before.before.before.before.before.before.before.before.before.before.args in
-    let l = c.before.before.before.before.before.before.before.before.before.before.before.loop in
-    let p = c.before.before.before.before.before.before.before.one-frame in
-    one_ran a.layout a.size a.b.now l.at (state l.picture l.palette) p.result _ (state p.new.0 p.new.1.0) p.ensures c.before.from.given.1
-
 pub loop-left-init : goal.loop-left-init
 loop-left-init c = (c.requires.0, c.requires.1, refl)
 
@@ -44,9 +35,9 @@ loop-left-preserved c =
     let a = c.args in
     let l = c.loop-left in
     let p = c.one_frame in (
-      (one_in a.layout a.size a.b.now l.at (state l.picture l.palette) l.invariant.0 _ (ap (λ (x : Progress). x.result) (accepted c))).2,
+      (one_in a.layout a.size a.b.now l.at (state l.picture l.palette) l.invariant.0 _ (ap (λ (x : Progress). x.result) (let a = c.args in let l = c.loop-left in let p = c.one_frame in one_ran a.layout a.size a.b.now l.at (state l.picture l.palette) p.result _ (state p.new.picture p.new.palette) p.ensures c.in-To.is))).2,
       exact_kept a.size (state l.picture l.palette) l.invariant.1 _ _ p.auto.picture p.auto.palette,
-      l.invariant.2 ∙ frames_more a.layout a.size a.b.now l.left l.last l.at (state l.picture l.palette) c.loop-left-test.true _ _ _ (accepted c),
+      l.invariant.2 ∙ frames_more a.layout a.size a.b.now l.left l.last l.at (state l.picture l.palette) c.loop-left-test.true _ _ _ (let a = c.args in let l = c.loop-left in let p = c.one_frame in one_ran a.layout a.size a.b.now l.at (state l.picture l.palette) p.result _ (state p.new.picture p.new.palette) p.ensures c.in-To.is),
     )
 
 pub shape_of-picture : goal.shape_of-picture

@@ -14,53 +14,34 @@ use Rattle.reel_trailer.specs.Room.{Walked}
 use Rattle.reel_trailer.proofs.Laws.{trailer_many, walk_fault, walk_to, walked_in, wrote_refused, wrote_short, wrote_back}
 use Rattle.reel_trailer.proofs.write_trailer.Goals as goal
 
--- the header is a reel's
-headed : (c : tie.After-known-told2) → let g = c.before.frames.given.0 in head_of FlcOnly c.before.before.before.before.before.before.args.bytes.now ≡ Reel g.0 g.1.0 g.1.1.0 g.1.1.1.0
-headed c = sym c.before.before.before.head_of.ensures ∙ c.before.frames.given.1
-
--- and its fields are in range
-inside : (c : tie.After-known-told2) → let g = c.before.frames.given.0 in ReelIn c.before.before.before.before.before.before.args.bytes.now g.0 g.1.0 g.1.1.0
-inside c = head_in _ _ _ (headed c)
-
--- all its frames were met
-met : (c : tie.After-enum-told) → let g = c.before.before.before.before.before.before.frames.given.0 in let b = c.before.before.before.before.before.before.before.before.before.before.before.args.bytes.now in trailer_walk b ≡ reel g.1.1.0 (trailer_of (top_frames (take (g.1.1.0 - 0) b) (g.1.0 + 1) HEADER_BYTES).offsets)
-met c =
-    let g = c.before.before.before.before.before.before.frames.given.0 in
-    walk_to _ _ _ _ _ (headed c.before.before.before.before.before) (g.1.1.0 - 0) (g.1.0 + 1) (omega arith) (omega arith) _ (sym c.before.before.walk_frames.ensures ∙ c.enum_told.given.1)
-
-all-walked : (c : tie.After-enum-told) → let g = c.before.before.before.before.before.before.frames.given.0 in Walked (take (g.1.1.0 - 0) c.before.before.before.before.before.before.before.before.before.before.before.args.bytes.now) (g.1.0 + 1)
-all-walked c =
-    let g = c.before.before.before.before.before.before.frames.given.0 in
-    walked_in _ _ _ _ _ (headed c.before.before.before.before.before) (g.1.1.0 - 0) (g.1.0 + 1) (omega arith) (omega arith) _ (sym c.before.before.walk_frames.ensures ∙ c.enum_told.given.1)
-
 pub slice_bounds-walk_frames-end : goal.slice_bounds-walk_frames-end
-slice_bounds-walk_frames-end c = (inside c).most
+slice_bounds-walk_frames-end c = (head_in _ _ _ (sym c.head_of.ensures ∙ c.in-Reel.is)).most
 
 pub overflow_add-frames : goal.overflow_add-frames
-overflow_add-frames c = omega (arith, (inside c).few_frames)
+overflow_add-frames c = omega (arith, (head_in _ _ _ (sym c.head_of.ensures ∙ c.in-Reel.is)).few_frames)
 
 pub overflow_add-n : goal.overflow_add-n
-overflow_add-n c = omega (arith, (inside c).few_frames)
+overflow_add-n c = omega (arith, (head_in _ _ _ (sym c.head_of.ensures ∙ c.in-Reel.is)).few_frames)
 
 pub overflow_mul-n : goal.overflow_mul-n
-overflow_mul-n c = omega (arith, (inside c).few_frames)
+overflow_mul-n c = omega (arith, (head_in _ _ _ (sym c.head_of.ensures ∙ c.in-Reel.is)).few_frames)
 
 pub overflow_add-n-in-End : goal.overflow_add-n-in-End
-overflow_add-n-in-End c = omega (arith, (inside c).few_frames)
+overflow_add-n-in-End c = omega (arith, (head_in _ _ _ (sym c.head_of.ensures ∙ c.in-Reel.is)).few_frames)
 
 pub overflow_sub-bytes : goal.overflow_sub-bytes
-overflow_sub-bytes c = (inside c).most
+overflow_sub-bytes c = (head_in _ _ _ (sym c.head_of.ensures ∙ c.in-Reel.is)).most
 
 pub returns-then-bytes-size : goal.returns-then-bytes-size
 returns-then-bytes-size c =
-    sym (wrote_short _ _ _ (met c) _ (trailer_many _ _ (all-walked c).met)
-    (omega (arith, (inside c).most, c.if-bytes-size.true)))
+    sym (wrote_short _ _ _ (let g = c.in-Reel.given.0 in walk_to _ _ _ _ _ (sym c.head_of.ensures ∙ c.in-Reel.is) (g.1.1.0 - 0) (g.1.0 + 1) (omega arith) (omega arith) _ (sym c.walk_frames.ensures ∙ c.in-End.is)) _ (trailer_many _ _ (let g = c.in-Reel.given.0 in walked_in _ _ _ _ _ (sym c.head_of.ensures ∙ c.in-Reel.is) (g.1.1.0 - 0) (g.1.0 + 1) (omega arith) (omega arith) _ (sym c.walk_frames.ensures ∙ c.in-End.is)).met)
+    (omega (arith, (head_in _ _ _ (sym c.head_of.ensures ∙ c.in-Reel.is)).most, c.if-bytes-size.true)))
 
 pub trailer_of-trailer-requires : goal.trailer_of-trailer-requires
-trailer_of-trailer-requires c = all-walked c
+trailer_of-trailer-requires c = (let g = c.in-Reel.given.0 in walked_in _ _ _ _ _ (sym c.head_of.ensures ∙ c.in-Reel.is) (g.1.1.0 - 0) (g.1.0 + 1) (omega arith) (omega arith) _ (sym c.walk_frames.ensures ∙ c.in-End.is))
 
 pub slice_bounds-copy-end-in-End : goal.slice_bounds-copy-end-in-End
-slice_bounds-copy-end-in-End c = omega (arith, (inside c).few_frames)
+slice_bounds-copy-end-in-End c = omega (arith, (head_in _ _ _ (sym c.head_of.ensures ∙ c.in-Reel.is)).few_frames)
 
 pub returns-in-Fault : goal.returns-in-Fault
 returns-in-Fault c = sym (wrote_refused _ _ 0 (walk_fault _ _ (sym c.head_of.ensures ∙ c.in-Fault.is)))
@@ -68,7 +49,7 @@ returns-in-Fault c = sym (wrote_refused _ _ 0 (walk_fault _ _ (sym c.head_of.ens
 pub returns-in-Fault-walk_frames : goal.returns-in-Fault-walk_frames
 returns-in-Fault-walk_frames c =
     let g = c.in-Reel.given.0 in
-    sym (wrote_refused _ _ _ (walk_to _ _ _ _ _ (headed c) (g.1.1.0 - 0) (g.1.0 + 1) (omega arith) (omega arith) _ (sym c.walk_frames.ensures ∙ c.in-Fault-walk_frames.is)))
+    sym (wrote_refused _ _ _ (walk_to _ _ _ _ _ (sym c.head_of.ensures ∙ c.in-Reel.is) (g.1.1.0 - 0) (g.1.0 + 1) (omega arith) (omega arith) _ (sym c.walk_frames.ensures ∙ c.in-Fault-walk_frames.is)))
 
 pub returns-else-bytes-size : goal.returns-else-bytes-size
 returns-else-bytes-size c =
