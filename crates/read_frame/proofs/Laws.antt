@@ -70,10 +70,10 @@ unfoldable pub seen : Pass → FrameWalk → State → Answer × State
 seen p f s = (f.answer, state (wrote p f.pixels s.picture) (wrote p f.colours s.palette))
 
 pub seen_gives : (p : Pass) (f : FrameWalk) (s : State) (a : Answer) (d e : List ℕ) → seen p f s ≡ (a, state d e)
-    → (a ≡ f.answer) × ((d ≡ wrote p f.pixels s.picture) × (e ≡ wrote p f.colours s.palette))
+    → record { answer : a ≡ f.answer; pixels : d ≡ wrote p f.pixels s.picture; colours : e ≡ wrote p f.colours s.palette }
 unfolding seen
 seen_gives p f s a d e q =
-    (sym (ap (λ (x : Answer × State). x.0) q), (sym (ap (λ (x : Answer × State). x.1.picture) q), sym (ap (λ (x : Answer × State). x.1.palette) q)))
+    record { answer = sym (ap (λ (x : Answer × State). x.0) q); pixels = sym (ap (λ (x : Answer × State). x.1.picture) q); colours = sym (ap (λ (x : Answer × State). x.1.palette) q) }
 
 seen_stop : (p : Pass) (a : Answer) (s : State) → seen p (stop a) s ≡ (a, s)
 unfolding seen

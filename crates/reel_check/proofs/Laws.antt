@@ -37,8 +37,8 @@ ring_compared x ring next q r k e f =
     ap (λ (z : Ran). ringed z x.last x.one) q ∙ ap (λ (t : Bool). cond t Done (Refused BadRing ring)) (sym e ∙ f)
 
 -- what the check of frames tells where they came to x: its answer and both states
-pub ring_told : (x y : Shown) → x ≡ y → (a : Answer) → ring_answer x ≡ a → (a ≡ ring_answer y) × ((x.last ≡ y.last) × (x.one ≡ y.one))
-ring_told x y e a q = (sym q ∙ ap ring_answer e, (ap (λ (z : Shown). z.last) e, ap (λ (z : Shown). z.one) e))
+pub ring_told : (x y : Shown) → x ≡ y → (a : Answer) → ring_answer x ≡ a → record { answer : a ≡ ring_answer y; first : x.last ≡ y.last; second : x.one ≡ y.one }
+ring_told x y e a q = record { answer = sym q ∙ ap ring_answer e; first = ap (λ (z : Shown). z.last) e; second = ap (λ (z : Shown). z.one) e }
 
 -- the check of a reel
 

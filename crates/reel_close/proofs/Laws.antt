@@ -78,8 +78,8 @@ module _ (r : Reel) (b : List ℕ) where
 
   -- what the close of frames tells where its own playing was x: the outcome and both states
   pub own_told : (x : Shown) → own_playing r b ≡ x → (o : ReelOutcome) → o ≡ close_frames r b x
-      → (o ≡ close_frames r b (own_playing r b)) × ((x.last ≡ (own_playing r b).last) × (x.one ≡ (own_playing r b).one))
-  own_told x e o q = (q ∙ ap (close_frames r b) (sym e), (ap (λ (y : Shown). y.last) (sym e), ap (λ (y : Shown). y.one) (sym e)))
+      → record { bytes : o ≡ close_frames r b (own_playing r b); first : x.last ≡ (own_playing r b).last; second : x.one ≡ (own_playing r b).one }
+  own_told x e o q = record { bytes = q ∙ ap (close_frames r b) (sym e); first = ap (λ (y : Shown). y.last) (sym e); second = ap (λ (y : Shown). y.one) (sym e) }
 
   -- close_frames
 

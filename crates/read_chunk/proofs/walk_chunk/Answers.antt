@@ -17,7 +17,8 @@ pub returns : goal.returns
 returns c =
     let a = c.args in
     let x = c.walk_kind in
-    let here = sym (chunk_by a.size a.kind a.body.now true (sym c.kind_ok.ensures ∙ c.if-not-kind_ok.false)) in (
-      x.ensures.verdict ∙ ap (λ (w : ChunkWalk). w.verdict) here,
-      (x.ensures.pixels.0 ∙ ap (λ (w : ChunkWalk). wrote a.pass w.pixels a.picture.now) here, x.ensures.pixels.1 ∙ ap (λ (w : ChunkWalk). wrote a.pass w.colours a.palette.now) here),
-    )
+    let here = sym (chunk_by a.size a.kind a.body.now true (sym c.kind_ok.ensures ∙ c.if-not-kind_ok.false)) in record {
+      verdict = x.ensures.verdict ∙ ap (λ (w : ChunkWalk). w.verdict) here;
+      pixels = x.ensures.pixels ∙ ap (λ (w : ChunkWalk). wrote a.pass w.pixels a.picture.now) here;
+      colours = x.ensures.colours ∙ ap (λ (w : ChunkWalk). wrote a.pass w.colours a.palette.now) here;
+    }

@@ -2,6 +2,7 @@
 use mathlib.Core.Path.{ap, ◌∙◌}
 use Prim.Native.Nat.{◌*◌}
 use borrow.Author.Rules.{rules}
+use native.Mathlib.Omega.{arith}
 use lib.ListN.{length}
 use Rattle.read_colour.specs.Colour.{colour}
 use Rattle.read_colour.specs.declared.Levels.TheVariants.{Of64, Of256}
@@ -72,6 +73,5 @@ returns-in-16 c =
 pub returns-in_default : goal.returns-in_default
 returns-in_default c =
     let a = c.args in
-    let r = c.in_default.rest in
     no_write _ _ a.pass a.picture.now a.palette.now
-    (kind_other a.size a.kind a.body.now r.0.0.0.0.0.0.1 r.0.0.0.0.0.1 r.0.0.0.0.1 r.0.0.0.1 r.0.0.1 r.0.1 r.1)
+    (kind_other a.size a.kind a.body.now (omega arith) (omega arith) (omega arith) (omega arith) (omega arith) (omega arith) (omega arith))

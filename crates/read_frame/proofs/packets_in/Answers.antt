@@ -22,5 +22,4 @@ returns-in-15 c =
 pub returns-in_default : goal.returns-in_default
 returns-in_default c =
     let a = c.args in
-    let r = c.in_default.rest in
-    (packets_not a.kind a.bytes r.0.0.1 r.0.1 r.1, omega arith)
+    (packets_not a.kind a.bytes (omega arith) (omega arith) (omega arith), omega arith)

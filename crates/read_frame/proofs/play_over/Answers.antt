@@ -6,12 +6,12 @@ use Rattle.read_frame.proofs.play_over.Goals as goal
 
 pub returns-in-Done : goal.returns-in-Done
 returns-in-Done c = record {
-      answer = sym c.in-Done.is ∙ c.walk_chunks.ensures.answer;
-      state = ap₂ state c.walk_chunks.ensures.pixels.0 c.walk_chunks.ensures.pixels.1;
-    }
+  answer = sym c.in-Done.is ∙ c.walk_chunks.ensures.answer;
+  state = ap₂ state c.walk_chunks.ensures.pixels c.walk_chunks.ensures.colours;
+}
 
 pub returns-in-Refused : goal.returns-in-Refused
 returns-in-Refused c = record {
-      answer = sym c.in-Refused.is ∙ c.walk_chunks.ensures.answer;
-      state = ap₂ state (c.copy-in-Refused.ensures ∙ c.copy.ensures) (c.copy-in-Refused-2.ensures ∙ c.copy-2.ensures);
-    }
+  answer = sym c.in-Refused.is ∙ c.walk_chunks.ensures.answer;
+  state = ap₂ state (c.copy-in-Refused.ensures ∙ c.copy.ensures) (c.copy-in-Refused-2.ensures ∙ c.copy-2.ensures);
+}

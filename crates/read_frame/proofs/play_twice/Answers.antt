@@ -21,7 +21,7 @@ pub returns-in-Refused : goal.returns-in-Refused
 returns-in-Refused c =
     let x = c.walk_chunks in record {
       answer = sym c.in-Refused.is ∙ x.ensures.answer;
-      state = ap₂ state x.ensures.pixels.0 x.ensures.pixels.1;
+      state = ap₂ state x.ensures.pixels x.ensures.colours;
     }
 
 pub returns-in-Done : goal.returns-in-Done
@@ -31,6 +31,6 @@ returns-in-Done c =
     let wet = c.walk_chunks-in-Done in
     let f = sub_chunks a.size a.b.now a.count 16 in record {
       answer = wet.ensures.answer;
-      state = ap₂ state (wet.ensures.pixels.0 ∙ ap (applied f.pixels) dry.ensures.pixels.0) (wet.ensures.pixels.1 ∙ ap (applied f.colours) dry.ensures.pixels.1)
+      state = ap₂ state (wet.ensures.pixels ∙ ap (applied f.pixels) dry.ensures.pixels) (wet.ensures.colours ∙ ap (applied f.colours) dry.ensures.colours)
           ∙ sym (settled_done f _ (state a.picture.now a.palette.now) (wet.ensures.answer ∙ sym dry.ensures.answer ∙ c.in-Done.is));
     }

@@ -46,7 +46,7 @@ returns-in-Fault-walk_chunk c =
     seen_gives a.pass _ (state a.picture.now a.palette.now) _ _ _
     (l.invariant.3
     ∙ seen_bad a.size a.b.now a.pass l.left l.at (state l.picture l.palette) c.loop-left-test.true _ _ (sym c.header_at.ensures ∙ c.in-Chunk.is)
-    (state x.new.picture x.new.palette) (ap₂ state x.ensures.pixels.0 x.ensures.pixels.1) _ (sym c.in-Fault-walk_chunk.is ∙ x.ensures.verdict))
+    (state x.new.picture x.new.palette) (ap₂ state x.ensures.pixels x.ensures.colours) _ (sym c.in-Fault-walk_chunk.is ∙ x.ensures.verdict))
 
 pub loop-left-preserved : goal.loop-left-preserved
 loop-left-preserved c =
@@ -59,7 +59,7 @@ loop-left-preserved c =
       x.auto.palette ∙ l.invariant.2,
       l.invariant.3
           ∙ seen_good a.size a.b.now a.pass l.left l.at (state l.picture l.palette) c.loop-left-test.true _ _ q
-          (state x.new.picture x.new.palette) (ap₂ state x.ensures.pixels.0 x.ensures.pixels.1) _ (sym c.in-Ends.is ∙ x.ensures.verdict),
+          (state x.new.picture x.new.palette) (ap₂ state x.ensures.pixels x.ensures.colours) _ (sym c.in-Ends.is ∙ x.ensures.verdict),
     )
 
 pub returns : goal.returns

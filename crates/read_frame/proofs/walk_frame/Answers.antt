@@ -20,16 +20,18 @@ walk_chunks-requires c =
 pub returns-in-Fault : goal.returns-in-Fault
 returns-in-Fault c =
     let a = c.args in
-    let f = frame_as a.size a.b.now _ (sym c.frame_header.ensures ∙ c.in-Fault.is) in (
-      sym (ap (λ (x : FrameWalk). x.answer) f),
-      (sym (ap (λ (x : FrameWalk). wrote a.pass x.pixels a.picture.now) f ∙ wrote_none a.pass a.picture.now), sym (ap (λ (x : FrameWalk). wrote a.pass x.colours a.palette.now) f ∙ wrote_none a.pass a.palette.now)),
-    )
+    let f = frame_as a.size a.b.now _ (sym c.frame_header.ensures ∙ c.in-Fault.is) in record {
+      answer = sym (ap (λ (x : FrameWalk). x.answer) f);
+      pixels = sym (ap (λ (x : FrameWalk). wrote a.pass x.pixels a.picture.now) f ∙ wrote_none a.pass a.picture.now);
+      colours = sym (ap (λ (x : FrameWalk). wrote a.pass x.colours a.palette.now) f ∙ wrote_none a.pass a.palette.now);
+    }
 
 pub returns-in-Frame : goal.returns-in-Frame
 returns-in-Frame c =
     let a = c.args in
     let x = c.walk_chunks in
-    let f = frame_part a.size a.b.now _ _ (sym c.frame_header.ensures ∙ c.in-Frame.is) in (
-      x.ensures.answer ∙ sym (ap (λ (x : FrameWalk). x.answer) f),
-      (x.ensures.pixels.0 ∙ sym (ap (λ (x : FrameWalk). wrote a.pass x.pixels a.picture.now) f), x.ensures.pixels.1 ∙ sym (ap (λ (x : FrameWalk). wrote a.pass x.colours a.palette.now) f)),
-    )
+    let f = frame_part a.size a.b.now _ _ (sym c.frame_header.ensures ∙ c.in-Frame.is) in record {
+      answer = x.ensures.answer ∙ sym (ap (λ (x : FrameWalk). x.answer) f);
+      pixels = x.ensures.pixels ∙ sym (ap (λ (x : FrameWalk). wrote a.pass x.pixels a.picture.now) f);
+      colours = x.ensures.colours ∙ sym (ap (λ (x : FrameWalk). wrote a.pass x.colours a.palette.now) f);
+    }

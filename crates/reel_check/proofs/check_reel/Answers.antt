@@ -76,4 +76,4 @@ returns-else-not-holds-2 c =
     let g = c.in-Reel.given.0 in
     let f = c.check_frames in
     check_laid a.bytes.now (state a.first-picture.now a.first-palette.now) (state a.second-picture.now a.second-palette.now) g.0 g.1.0 g.1.1.0 g.1.1.1.0 (sym c.head_of.ensures ∙ c.in-Reel.is) (sym c.holds.ensures ∙ c.if-not-holds.false) (sym c.holds-in-Reel.ensures ∙ c.if-not-holds-2.false)
-    (area g.0 - 0) (g.1.1.0 - 0) (omega arith) (omega arith) f.result _ _ f.ensures.answer f.ensures.first.0 f.ensures.first.1
+    (area g.0 - 0) (g.1.1.0 - 0) (omega arith) (omega arith) f.result _ _ f.ensures.answer f.ensures.first f.ensures.second

@@ -78,4 +78,4 @@ returns c =
     let a = c in
     let f = c.close_frames in
     close_laid a.args.reel a.args.bytes.now (first a) (second a) (record { taken = sym c.close_ok.ensures ∙ c.if-not-close_ok.false; sized = sym c.size_fits.ensures ∙ c.if-not-size_fits.false; first_long = sym c.holds.ensures ∙ c.if-not-holds.false; second_long = sym c.holds-2.ensures ∙ c.if-not-holds-2.false; }) (area a.args.reel.size - 0) (omega arith)
-    (builds f.result.reel (leaves (told f.result.answer) (lent_bytes f.new.bytes))) _ _ f.ensures.bytes f.ensures.first.0 f.ensures.first.1
+    (builds f.result.reel (leaves (told f.result.answer) (lent_bytes f.new.bytes))) _ _ f.ensures.bytes f.ensures.first f.ensures.second

@@ -24,18 +24,15 @@ returns-then-b-size c = head_is _ c.args.b.now _ _ _ _ _ _ _ true true true fals
 
 pub returns-then-not-size_fits : goal.returns-then-not-size_fits
 returns-then-not-size_fits c =
-    let s = (le-leb HEADER_BYTES _ c.if-b-lt-HEADER_BYTES.false, sym c.magic_ok.ensures ∙ c.if-not-magic_ok.false, le-leb HEADER_BYTES _ c.if-size-lt-HEADER_BYTES.false, le-leb _ _ c.if-b-size.false) in
     head_is _ c.args.b.now _ _ _ _ _ _ _ true true true true false _ c.u16_at.ensures.value c.u32_at-size.ensures.value c.size_at-picture.ensures refl refl refl refl
-    s.0 s.1 s.2 s.3 (sym c.size_fits.ensures ∙ c.if-not-size_fits.true) refl
+    (le-leb HEADER_BYTES _ c.if-b-lt-HEADER_BYTES.false) (sym c.magic_ok.ensures ∙ c.if-not-magic_ok.false) (le-leb HEADER_BYTES _ c.if-size-lt-HEADER_BYTES.false) (le-leb _ _ c.if-b-size.false) (sym c.size_fits.ensures ∙ c.if-not-size_fits.true) refl
 
 pub returns-then-not-form_ok : goal.returns-then-not-form_ok
 returns-then-not-form_ok c =
-    let s = (le-leb HEADER_BYTES _ c.if-b-lt-HEADER_BYTES.false, sym c.magic_ok.ensures ∙ c.if-not-magic_ok.false, le-leb HEADER_BYTES _ c.if-size-lt-HEADER_BYTES.false, le-leb _ _ c.if-b-size.false) in
     head_is _ c.args.b.now _ _ _ _ _ _ _ true true true true true false c.u16_at.ensures.value c.u32_at-size.ensures.value c.size_at-picture.ensures c.u16_at-frames.ensures.value c.u16_at-2.ensures.value c.u16_at-3.ensures.value refl
-    s.0 s.1 s.2 s.3 (sym c.size_fits.ensures ∙ c.if-not-size_fits.false) (sym c.form_ok.ensures ∙ c.if-not-form_ok.true)
+    (le-leb HEADER_BYTES _ c.if-b-lt-HEADER_BYTES.false) (sym c.magic_ok.ensures ∙ c.if-not-magic_ok.false) (le-leb HEADER_BYTES _ c.if-size-lt-HEADER_BYTES.false) (le-leb _ _ c.if-b-size.false) (sym c.size_fits.ensures ∙ c.if-not-size_fits.false) (sym c.form_ok.ensures ∙ c.if-not-form_ok.true)
 
 pub returns : goal.returns
 returns c =
-    let s = (le-leb HEADER_BYTES _ c.if-b-lt-HEADER_BYTES.false, sym c.magic_ok.ensures ∙ c.if-not-magic_ok.false, le-leb HEADER_BYTES _ c.if-size-lt-HEADER_BYTES.false, le-leb _ _ c.if-b-size.false) in
     head_is _ c.args.b.now _ _ _ _ _ _ _ true true true true true true c.u16_at.ensures.value c.u32_at-size.ensures.value c.size_at-picture.ensures c.u16_at-frames.ensures.value c.u16_at-2.ensures.value c.u16_at-3.ensures.value c.delay_at.ensures
-    s.0 s.1 s.2 s.3 (sym c.size_fits.ensures ∙ c.if-not-size_fits.false) (sym c.form_ok.ensures ∙ c.if-not-form_ok.false)
+    (le-leb HEADER_BYTES _ c.if-b-lt-HEADER_BYTES.false) (sym c.magic_ok.ensures ∙ c.if-not-magic_ok.false) (le-leb HEADER_BYTES _ c.if-size-lt-HEADER_BYTES.false) (le-leb _ _ c.if-b-size.false) (sym c.size_fits.ensures ∙ c.if-not-size_fits.false) (sym c.form_ok.ensures ∙ c.if-not-form_ok.false)

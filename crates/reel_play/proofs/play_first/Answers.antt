@@ -13,7 +13,8 @@ one_frame-ran-requires c =
 
 pub returns : goal.returns
 returns c =
-    let a = c.args in (
-      c.one_frame-ran.ensures ∙ ap (λ (s : State). one_frame a.layout a.size a.b.now 128 s) c.clear.ensures,
-      (c.copy.ensures, c.copy-2.ensures),
-    )
+    let a = c.args in record {
+      first = c.one_frame-ran.ensures ∙ ap (λ (s : State). one_frame a.layout a.size a.b.now 128 s) c.clear.ensures;
+      picture = c.copy.ensures;
+      palette = c.copy-2.ensures;
+    }
