@@ -12,4 +12,4 @@ returns c =
     let here = c in
     let made = here in
     let a = made.args in
-    held_reel c.built_for_c.ensures.0 (here.close_reel-a.ensures ∙ ap (λ (r : Reel). close_reel r a.bytes.now (state a.first-picture.now a.first-palette.now) (state a.second-picture.now a.second-palette.now)) made.reel_from_c.ensures) c.built_for_c.ensures.1
+    held_reel c.built_for_c.ensures.0 (here.close_reel-a.ensures ∙ ap (λ (r : Reel). close_reel r a.bytes.now (state a.first_picture.now a.first_palette.now) (state a.second_picture.now a.second_palette.now)) made.reel_from_c.ensures) c.built_for_c.ensures.1

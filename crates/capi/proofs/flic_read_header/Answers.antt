@@ -12,6 +12,5 @@ returns-in-Fault c =
 
 pub returns-in-Reel : goal.returns-in-Reel
 returns-in-Reel c =
-    let g = c.in-Reel.given.0 in
-    ap (λ (n : ℕ). record { number = 0; place = 0; width = g.0.width; height = g.0.height; frames = g.1.0; size = g.1.1.0; speed = g.1.1.1.0.0; format = n }) c.format_number.ensures
+    ap (λ (n : ℕ). record { number = 0; place = 0; width = c.in-Reel.picture.width; height = c.in-Reel.picture.height; frames = c.in-Reel.frames; size = c.in-Reel.size; speed = c.in-Reel.speed.0; format = n }) c.format_number.ensures
     ∙ ap header_for (sym (sym c.head_of.ensures ∙ c.in-Reel.is))

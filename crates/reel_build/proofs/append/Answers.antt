@@ -13,7 +13,7 @@ use Rattle.reel_build.proofs.append.Goals as goal
 
 -- the frame that is asked for
 abbrev asked : tie.Start → List ℕ
-asked c = let a = c.args in house_frame a.size (state a.previous-picture.now a.previous-palette.now) (state a.next-picture.now a.next-palette.now)
+asked c = let a = c.args in house_frame a.size (state a.previous_picture.now a.previous_palette.now) (state a.next_picture.now a.next_palette.now)
 
 pub returns-then-longest-end : goal.returns-then-longest-end
 returns-then-longest-end c = append_none c.args.end (asked (c)) c.args.bytes.now (omega (arith, c.longest_in-longest.ensures))

@@ -17,10 +17,10 @@ use Rattle.reel_close.proofs.close_reel.Goals as goal
 
 -- the pairs as they were lent
 abbrev first : tie.Start → State
-first c = state c.args.first-picture.now c.args.first-palette.now
+first c = state c.args.first_picture.now c.args.first_palette.now
 
 abbrev second : tie.Start → State
-second c = state c.args.second-picture.now c.args.second-palette.now
+second c = state c.args.second_picture.now c.args.second_palette.now
 
 abbrev found : tie.Start → Memory
 found c = lent_bytes_pairs c.args.bytes.now (first c) (second c)

@@ -12,7 +12,7 @@ use Rattle.reel_close.proofs.put_ring.Goals as goal
 
 -- the ring that is asked for
 abbrev ring : tie.Start → List ℕ
-ring c = let a = c.args in house_frame a.reel.size (state a.last-picture.now a.last-palette.now) (state a.one-picture.now a.one-palette.now)
+ring c = let a = c.args in house_frame a.reel.size (state a.last_picture.now a.last_palette.now) (state a.one_picture.now a.one_palette.now)
 
 pub returns-in-Refused : goal.returns-in-Refused
 returns-in-Refused c =

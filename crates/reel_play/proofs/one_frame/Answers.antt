@@ -45,8 +45,7 @@ returns-in-Refused c =
     let a = c.args in
     let x = c.play_frame in
     let s = state a.picture.now a.palette.now in
-    let f = c.in-Frame.given.0 in
-    ap (ran (Stopped _ _)) (x.ensures.state ∙ settled_refused (frame a.size (part a.b.now f.0 f.1.0)) x.result s _ _ c.in-Refused.is)
+    ap (ran (Stopped _ _)) (x.ensures.state ∙ settled_refused (frame a.size (part a.b.now c.in-Frame.from c.in-Frame.end)) x.result s _ _ c.in-Refused.is)
     ∙ sym (one_refused a.layout a.size a.b.now a.at s _ _ (sym c.step_at.ensures ∙ c.in-Frame.is) _ _ (sym x.ensures.answer ∙ c.in-Refused.is))
 
 pub returns-in-Done : goal.returns-in-Done
@@ -54,6 +53,5 @@ returns-in-Done c =
     let a = c.args in
     let x = c.play_frame in
     let s = state a.picture.now a.palette.now in
-    let f = c.in-Frame.given.0 in
-    ap (ran (To f.0 f.1.0)) (x.ensures.state ∙ settled_done (frame a.size (part a.b.now f.0 f.1.0)) x.result s c.in-Done.is)
+    ap (ran (To c.in-Frame.from c.in-Frame.end)) (x.ensures.state ∙ settled_done (frame a.size (part a.b.now c.in-Frame.from c.in-Frame.end)) x.result s c.in-Done.is)
     ∙ sym (one_played a.layout a.size a.b.now a.at s _ _ (sym c.step_at.ensures ∙ c.in-Frame.is) (sym x.ensures.answer ∙ c.in-Done.is))

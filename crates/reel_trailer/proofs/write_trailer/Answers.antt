@@ -34,11 +34,11 @@ overflow_sub-bytes c = (head_in _ _ _ (sym c.head_of.ensures ∙ c.in-Reel.is)).
 
 pub returns-then-bytes-size : goal.returns-then-bytes-size
 returns-then-bytes-size c =
-    sym (wrote_short _ _ _ (let g = c.in-Reel.given.0 in walk_to _ _ _ _ _ (sym c.head_of.ensures ∙ c.in-Reel.is) (g.1.1.0 - 0) (g.1.0 + 1) (omega arith) (omega arith) _ (sym c.walk_frames.ensures ∙ c.in-End.is)) _ (trailer_many _ _ (let g = c.in-Reel.given.0 in walked_in _ _ _ _ _ (sym c.head_of.ensures ∙ c.in-Reel.is) (g.1.1.0 - 0) (g.1.0 + 1) (omega arith) (omega arith) _ (sym c.walk_frames.ensures ∙ c.in-End.is)).met)
+    sym (wrote_short _ _ _ ( walk_to _ _ _ _ _ (sym c.head_of.ensures ∙ c.in-Reel.is) (c.in-Reel.size - 0) (c.in-Reel.frames + 1) (omega arith) (omega arith) _ (sym c.walk_frames.ensures ∙ c.in-End.is)) _ (trailer_many _ _ ( walked_in _ _ _ _ _ (sym c.head_of.ensures ∙ c.in-Reel.is) (c.in-Reel.size - 0) (c.in-Reel.frames + 1) (omega arith) (omega arith) _ (sym c.walk_frames.ensures ∙ c.in-End.is)).met)
     (omega (arith, (head_in _ _ _ (sym c.head_of.ensures ∙ c.in-Reel.is)).most, c.if-bytes-size.true)))
 
 pub trailer_of-trailer-requires : goal.trailer_of-trailer-requires
-trailer_of-trailer-requires c = (let g = c.in-Reel.given.0 in walked_in _ _ _ _ _ (sym c.head_of.ensures ∙ c.in-Reel.is) (g.1.1.0 - 0) (g.1.0 + 1) (omega arith) (omega arith) _ (sym c.walk_frames.ensures ∙ c.in-End.is))
+trailer_of-trailer-requires c = ( walked_in _ _ _ _ _ (sym c.head_of.ensures ∙ c.in-Reel.is) (c.in-Reel.size - 0) (c.in-Reel.frames + 1) (omega arith) (omega arith) _ (sym c.walk_frames.ensures ∙ c.in-End.is))
 
 pub slice_bounds-copy-end-in-End : goal.slice_bounds-copy-end-in-End
 slice_bounds-copy-end-in-End c = omega (arith, (head_in _ _ _ (sym c.head_of.ensures ∙ c.in-Reel.is)).few_frames)
@@ -48,8 +48,7 @@ returns-in-Fault c = sym (wrote_refused _ _ 0 (walk_fault _ _ (sym c.head_of.ens
 
 pub returns-in-Fault-walk_frames : goal.returns-in-Fault-walk_frames
 returns-in-Fault-walk_frames c =
-    let g = c.in-Reel.given.0 in
-    sym (wrote_refused _ _ _ (walk_to _ _ _ _ _ (sym c.head_of.ensures ∙ c.in-Reel.is) (g.1.1.0 - 0) (g.1.0 + 1) (omega arith) (omega arith) _ (sym c.walk_frames.ensures ∙ c.in-Fault-walk_frames.is)))
+    sym (wrote_refused _ _ _ (walk_to _ _ _ _ _ (sym c.head_of.ensures ∙ c.in-Reel.is) (c.in-Reel.size - 0) (c.in-Reel.frames + 1) (omega arith) (omega arith) _ (sym c.walk_frames.ensures ∙ c.in-Fault-walk_frames.is)))
 
 pub returns-else-bytes-size : goal.returns-else-bytes-size
 returns-else-bytes-size c =
