@@ -67,6 +67,7 @@ pub data Sorted {M : Type 0} (Before : M → M → Type 0) : List M → Type 0 w
 
 first_before : {M : Type 0} {Before : M → M → Type 0} {f : M → ℕ} {ms : List M} {m : M}
     → Sorted Before ms → First f ms m → (n : M) → Memᴰ n ms → f n ≡ f m → Before m n
+first_before none f n i e = elim f [ ]
 first_before (more b o) (here h) n i e = b n i
 first_before {Before = Before} {f = f} (more b o) (later {x = x} {m = m} l h) n i e =
     ⊎_elim {C = Before m n} (λ (d : n ≡ x). absurd (omega (arith, ap f d))) (λ j. first_before o h n j e) (Memᴰ.cases_cons i)

@@ -58,14 +58,14 @@ two_least : (s : List ℕ) → length s ≡ 129 → Apart s → Least span size 
 two_least s l a =
     record { way = two_through s l; least = λ ns w. omega (arith, apart_size (two_through s l) a, apart_size w a, spans w) }
 
+first_one : {s : List ℕ} {n : ℕ} {ms : List RowPacket} → Apart s → Through s (repeat n ∷ ms) → n ≡ 1
+first_one a (go {s = s} {m = repeat n} i w) = repeat_one n s a (repeat_of n s i)
+
 first_repeat : (s : List ℕ) (ps : List RowPacket) → length s ≡ 129 → Apart s → Preferred span size allowed Before s ps → get_or (bytes ps s) 0 0 ≡ 1
 unfolding bytes
 first_repeat s ps l a end = absurd (omega arith)
 first_repeat s ps l a (next {m = copy n} least before rest) = absurd (before (repeat 1) (copy 128 ∷ []) (two_least s l a))
-first_repeat s ps l a (next {m = repeat n} least before rest) = first least.way
-  where
-    first : {ms : List RowPacket} → Through s (repeat n ∷ ms) → n ≡ 1
-    first (go i w) = repeat_one n s a (repeat_of n s i)
+first_repeat s ps l a (next {m = repeat n} least before rest) = first_one a least.way
 
 pub apart_row : (s : List ℕ) → length s ≡ 129 → Apart s → (length (house_bytes s) ≡ 131) × (get_or (house_bytes s) 0 0 ≡ 1)
 unfolding house_bytes

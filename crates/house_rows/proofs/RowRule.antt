@@ -8,7 +8,7 @@ use Prim.Native.Nat.{ℕ, zero, suc, ◌-◌, ◌≤◌}
 use native.Mathlib.Omega.{arith}
 use lib.ListN.{length, get_or, drop, take, replicate, length-append, length-take, length-replicate, take-append-drop}
 use lib.Seq.{drop_at, take_at}
-use Rattle.house_least.specs.Least.{sum, Way, stop, go, Preferred, best}
+use Rattle.house_least.specs.Least.{sum, stop, go, Preferred, best}
 use Rattle.house_least.proofs.Laws as laws
 use Rattle.house_rows.specs.Row.{RowPacket, repeat, copy, span, size, allowed, house, bytes, house_bytes, Encodes, none, repeated, copied, Before}
 use Rattle.house_rows.specs.RowRule.{Through, RowRule}

@@ -8,7 +8,7 @@ use lib.ListN.{length, get_or, set}
 use lib.Seq.{get_or-set_same, get_or-set_other}
 use Rattle.house_least.proofs.Laws.{le_or_lt}
 use Rattle.house_rows.specs.declared.End.{End}
-use Rattle.house_rows.specs.Window.{places, end_of, Lowest, LowestEnd, Lower, Window}
+use Rattle.house_rows.specs.Window.{places, end_of, LowestEnd, Lower, Window}
 use Rattle.house_rows.proofs.Lowest.{one, join_left, join_right, agreed, the}
 
 -- an end packed into one number

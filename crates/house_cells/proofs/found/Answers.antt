@@ -1,6 +1,5 @@
 -- The part that the range lends is the k bytes at offset at; unchanged or changed is then one test.
 use Rattle.house_cells.proofs.RunLaws.{found_unchanged, found_changed}
-use borrow.Author.Rules.{rules}
 use Rattle.house_cells.proofs.found.Goals as goal
 
 pub returns-in-Unchanged : goal.returns-in-Unchanged

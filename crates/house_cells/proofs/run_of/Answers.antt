@@ -1,11 +1,8 @@
 -- Invariant: the run from cell i on is the cells up to j and the run from cell j on, which begins at offset at.
-use borrow.Author.Tests.{not-true, not-false}
-use borrow.Author.Rules.{rules}
 use mathlib.Core.Path.{refl}
-use Prim.Native.Nat.{◌-◌}
 use native.Mathlib.Nat.{mul-le-mul_right}
 use native.Mathlib.Omega.{arith}
-use Rattle.house_cells.proofs.RunLaws.{Running, running_on, running_stops, running_ends, next_place}
+use Rattle.house_cells.proofs.RunLaws.{running_on, running_stops, running_ends, next_place}
 use Rattle.house_cells.proofs.run_of.Goals as goal
 
 pub overflow_mul-at : goal.overflow_mul-at
@@ -27,7 +24,7 @@ pub returns-then-not-found : goal.returns-then-not-found
 returns-then-not-found c =
     let a = c.args in
     running_stops a.p.now a.q.now a.k a.n a.i a.sought c.loop-j.j c.loop-j.at c.found.result c.loop-j.invariant c.loop-j-test.true c.found.ensures
-    (not-true c.found.result c.if-not-found.true)
+    c.if-not-found.true
 
 pub overflow_add-at : goal.overflow_add-at
 overflow_add-at c =
@@ -39,7 +36,7 @@ pub loop-j-preserved : goal.loop-j-preserved
 loop-j-preserved c =
     let a = c.args in
     running_on a.p.now a.q.now a.k a.n a.i a.sought c.loop-j.j c.loop-j.at c.found.result c.loop-j.invariant c.loop-j-test.true c.found.ensures
-    (not-false c.found.result c.if-not-found.false)
+    c.if-not-found.false
 
 pub overflow_sub-result-2 : goal.overflow_sub-result-2
 overflow_sub-result-2 c = c.loop-j.invariant.low

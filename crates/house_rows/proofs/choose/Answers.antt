@@ -1,7 +1,6 @@
 -- `choose` meets its contract: the types fit a byte, and the test is the contract's.
 use mathlib.Core.Path.{refl}
 use native.Mathlib.Omega.{arith}
-use borrow.Author.Rules.{rules}
 use Rattle.house_rows.proofs.choose.Goals as goal
 
 pub returns-then-repeat_sum-copy_sum : goal.returns-then-repeat_sum-copy_sum

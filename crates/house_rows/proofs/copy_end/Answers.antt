@@ -1,7 +1,6 @@
 -- `copy_end` meets its contract: the near part and the far part up to t + 127 stand side by side, and the lower of their lowest ends is the window's; where the far part has none, the near part is the window.
 use mathlib.Core.Path.{subst}
 use native.Mathlib.Omega.{arith}
-use borrow.Author.Rules.{rules}
 use Rattle.house_rows.specs.declared.End.{End}
 use Rattle.house_rows.specs.Window.{sum_at, Lower}
 use Rattle.house_rows.proofs.Windows.{window_far, window_near}

@@ -1,7 +1,6 @@
 -- `end_at` meets its contract: the sum is the one noted at j.
 use mathlib.Core.Path.{ap}
 use Prim.Native.Nat.{ℕ}
-use borrow.Author.Rules.{rules}
 use Rattle.house_rows.specs.declared.End.{End}
 use Rattle.house_rows.proofs.end_at.Goals as goal
 

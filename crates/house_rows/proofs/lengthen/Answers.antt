@@ -1,6 +1,5 @@
 -- `lengthen` meets its contract: the test is the contract's.
 use mathlib.Core.Path.{refl}
-use borrow.Author.Rules.{rules}
 use Rattle.house_rows.proofs.lengthen.Goals as goal
 
 pub returns-then-here-next : goal.returns-then-here-next

@@ -2,15 +2,10 @@
 use mathlib.Core.Path.{◌≡◌, refl}
 use Prim.Native.Nat.{ℕ, ◌+◌, ◌-◌}
 use native.Mathlib.Omega.{arith}
-use borrow.Author.Rules.{rules}
 use lib.ListN.{length, replicate, length-replicate}
 use Rattle.format.specs.Limits.{max_width}
-use Rattle.house_rows.proofs.Searching.{Searching, Longest, searching_last, run_fits, shortened_run, longest_more, here_noted, window_before, choose_fits, sum_small, searching_more, searching_done}
+use Rattle.house_rows.proofs.Searching.{searching_last, run_fits, shortened_run, longest_more, here_noted, window_before, choose_fits, sum_small, searching_more, searching_done}
 use Rattle.house_rows.proofs.plan_row.Goals as goal
-
--- the longest repeat at the pixel
-longest : (c : tie.After-lengthen invariant-loop decreases-loop) → let L = c.before.before.before.before.before.before.loop in Longest c.before.before.before.before.before.before.before.before.before.args.row.now (L.i - 1) c.lengthen.result
-longest c = let L = c.before.before.before.before.before.before.loop in longest_more (L.i - 1) (omega arith) L.invariant c.before.shorten.result c.lengthen.result c.before.shorten.ensures c.lengthen.ensures
 
 pub loop-i-init : goal.loop-i-init
 loop-i-init c =
@@ -32,12 +27,15 @@ pub copy_end-end-requires : goal.copy_end-end-requires
 copy_end-end-requires c = (omega arith, c.slide-v.ensures.3)
 
 pub choose-picked-requires : goal.choose-picked-requires
-choose-picked-requires c = let L = c.loop-i in choose_fits (L.i - 1) (omega (arith, c.loop-i-test.true)) L.invariant (longest c) c.copy_end-end.ensures
+choose-picked-requires c = let L = c.loop-i in
+    let longest = longest_more (L.i - 1) (omega (arith, c.loop-i-test.true)) L.invariant c.shorten.result c.lengthen-repeat.result c.shorten.ensures c.lengthen-repeat.ensures in
+    choose_fits (L.i - 1) (omega (arith, c.loop-i-test.true)) L.invariant longest c.copy_end-end.ensures
 
 pub overflow_cast-sums-in-loop-i : goal.overflow_cast-sums-in-loop-i
 overflow_cast-sums-in-loop-i c =
     let L = c.loop-i in
-    omega (arith, sum_small (L.i - 1) (omega (arith, c.loop-i-test.true)) L.invariant (longest c) c.copy_end-end.ensures c.choose-picked.ensures)
+    let longest = longest_more (L.i - 1) (omega (arith, c.loop-i-test.true)) L.invariant c.shorten.result c.lengthen-repeat.result c.shorten.ensures c.lengthen-repeat.ensures in
+    omega (arith, sum_small (L.i - 1) (omega (arith, c.loop-i-test.true)) L.invariant longest c.copy_end-end.ensures c.choose-picked.ensures)
 
 pub offset_bounds-sums-i-in-loop-i : goal.offset_bounds-sums-i-in-loop-i
 offset_bounds-sums-i-in-loop-i c = let L = c.loop-i in omega (arith, L.invariant.inside, L.invariant.high)
@@ -57,9 +55,10 @@ loop-i-smaller c = omega (arith, c.loop-i-test.true)
 pub loop-i-preserved : goal.loop-i-preserved
 loop-i-preserved c =
     let L = c.loop-i in
+    let longest = longest_more (L.i - 1) (omega (arith, c.loop-i-test.true)) L.invariant c.shorten.result c.lengthen-repeat.result c.shorten.ensures c.lengthen-repeat.ensures in
     let n : L.i - 1 + 1 ≡ L.i = omega (arith, c.loop-i-test.true) in
     let v = c.slide-v in
-    searching_more (L.i - 1) n L.invariant (longest c) c.copy_end-end.ensures c.choose-picked.ensures v.result.turns v.ensures.0 v.ensures.1 v.ensures.2 v.ensures.3
+    searching_more (L.i - 1) n L.invariant longest c.copy_end-end.ensures c.choose-picked.ensures v.result.turns v.ensures.0 v.ensures.1 v.ensures.2 v.ensures.3
 
 pub shape_of-first : goal.shape_of-first
 shape_of-first c = omega (arith, c.loop-i.invariant.long_first, c.loop-i.invariant.whole)

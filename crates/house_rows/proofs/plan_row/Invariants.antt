@@ -1,11 +1,5 @@
 -- `plan_row` meets its contract. The invariant: the sums and first bytes from pixel i on are the house rows', here is the sum at i, repeat the longest at i, and the window stands at i + 1; one pixel more is a step of `Steps`.
-use mathlib.Core.Path.{◌≡◌, refl}
-use Prim.Native.Nat.{ℕ, ◌+◌, ◌-◌}
-use native.Mathlib.Omega.{arith}
-use borrow.Author.Rules.{rules}
-use lib.ListN.{length, replicate, length-replicate}
-use Rattle.format.specs.Limits.{max_width}
-use Rattle.house_rows.proofs.Searching.{Searching, Longest, searching_last, run_fits, shortened_run, longest_more, here_noted, window_before, choose_fits, sum_small, searching_more, searching_done}
+use Rattle.house_rows.proofs.Searching.{Searching}
 use Rattle.house_rows.proofs.plan_row.Given as goal
 
 abbrev pub invariant-loop-i : goal.invariant-loop-i

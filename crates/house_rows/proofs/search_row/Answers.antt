@@ -1,31 +1,23 @@
 -- `search_row` meets its contract: a row is one of a picture of height 1, and what the search gives back is what is told.
-use mathlib.Core.Bool.{true}
-use mathlib.Core.Path.{◌≡◌, sym, ◌∙◌}
+use mathlib.Core.Path.{sym, ◌∙◌}
 use Prim.Native.Nat.{◌-◌}
 use native.Mathlib.Omega.{arith}
-use borrow.Author.Tests.{not-true, not-false}
-use borrow.Author.Rules.{rules}
 use lib.Seq.{length-take-le}
 use lib.ListN.{length}
-use Rattle.format.specs.Limits.{size_ok}
 use Rattle.format.proofs.Laws.{size_ok_in}
 use Rattle.house_rows.proofs.Types.{search_refused, search_told}
 use Rattle.house_rows.proofs.search_row.Goals as goal
 
--- the row is one that a picture may have
-sized : (c : tie.Else1) → size_ok (length c.before.before.before.args.row.now) 1 ≡ true
-sized c = sym c.before.size_ok.ensures ∙ not-false _ c.if1.false
-
 pub returns-then-not-size_ok : goal.returns-then-not-size_ok
-returns-then-not-size_ok c = search_refused c.args.row.now (sym c.size_ok.ensures ∙ not-true _ c.if-not-size_ok.true)
+returns-then-not-size_ok c = search_refused c.args.row.now (sym c.size_ok.ensures ∙ c.if-not-size_ok.true)
 
 pub slice_bounds-first-end : goal.slice_bounds-first-end
-slice_bounds-first-end c = omega (arith, (size_ok_in (length c.args.row.now) 1 (sized c)).wide)
+slice_bounds-first-end c = omega (arith, (size_ok_in (length c.args.row.now) 1 (sym c.size_ok.ensures ∙ c.if-not-size_ok.false)).wide)
 
 pub plan_row-plan-requires : goal.plan_row-plan-requires
 plan_row-plan-requires c =
-    let s = size_ok_in (length c.args.row.now) 1 (sized c) in
+    let s = size_ok_in (length c.args.row.now) 1 (sym c.size_ok.ensures ∙ c.if-not-size_ok.false) in
     (s.some_wide, s.wide, length-take-le (length c.args.row.now - 0) c.row_room-first.result (omega (arith, s.wide)) ∙ omega arith)
 
 pub returns : goal.returns
-returns c = search_told c.args.row.now c.plan_row-plan.new.first c.plan_row-plan.result.size c.plan_row-plan.result.turns (sized c) c.plan_row-plan.ensures
+returns c = search_told c.args.row.now c.plan_row-plan.new.first c.plan_row-plan.result.size c.plan_row-plan.result.turns (sym c.size_ok.ensures ∙ c.if-not-size_ok.false) c.plan_row-plan.ensures

@@ -2,7 +2,6 @@
 use mathlib.Core.Path.{refl, ap}
 use Prim.Native.Nat.{ℕ}
 use native.Mathlib.Omega.{arith}
-use borrow.Author.Rules.{rules}
 use Rattle.house_rows.specs.declared.Repeat.{Repeat}
 use Rattle.house_rows.proofs.shorten.Goals as goal
 

@@ -2,7 +2,6 @@
 use mathlib.Core.Path.{◌≡◌, subst}
 use Prim.Native.Nat.{ℕ, ◌+◌, ◌-◌}
 use native.Mathlib.Omega.{arith}
-use borrow.Author.Rules.{rules}
 use Rattle.house_rows.specs.Window.{sum_at}
 use Rattle.house_rows.proofs.Windows.{Swept, window_turn, window_left}
 use Rattle.house_rows.proofs.slide.Goals as goal

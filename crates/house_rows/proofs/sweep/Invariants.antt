@@ -1,13 +1,10 @@
 -- `sweep` meets its contract. After place j: low is the lowest end from t + 1 to j, and far has the lowest end up to each place passed; one place more joins a range of one on the right.
-use mathlib.Core.Path.{◌≡◌, ap, sym, subst, ◌∙◌}
+use mathlib.Core.Path.{◌≡◌}
 use Prim.Native.Nat.{◌+◌, ◌-◌, ◌≤◌, ◌<◌}
-use native.Mathlib.Omega.{arith}
-use borrow.Author.Rules.{rules}
-use lib.ListN.{length, length-set}
+use lib.ListN.{length}
 use Rattle.format.specs.Limits.{max_width}
-use Rattle.house_rows.specs.declared.End.{End}
 use Rattle.house_rows.specs.Window.{LowestEnd, sum_at}
-use Rattle.house_rows.proofs.Windows.{Swept, swept_more, lower_next, lower_small, end_packed}
+use Rattle.house_rows.proofs.Windows.{Swept}
 use Rattle.house_rows.proofs.sweep.Given as goal
 
 abbrev pub invariant-loop-j : goal.invariant-loop-j
