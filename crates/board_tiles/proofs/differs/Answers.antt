@@ -1,6 +1,5 @@
 -- `differs` meets its contract: the exclusive or of two bytes is 0 exactly if they are equal.
 use lib.ListN.{get_or}
-use borrow.Author.Rules.{rules}
 use Rattle.board_tiles.proofs.Noting.{tells_xor}
 use Rattle.board_tiles.proofs.differs.Goals as goal
 

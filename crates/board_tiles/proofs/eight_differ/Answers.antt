@@ -1,5 +1,4 @@
 -- `eight_differ` meets its contract: bytes joined by or are 0 exactly if each is.
-use borrow.Author.Rules.{rules}
 use Rattle.board_tiles.proofs.Noting.{eight_below}
 use Rattle.board_tiles.proofs.eight_differ.Goals as goal
 

@@ -1,10 +1,8 @@
 -- `note_eight` meets its contract. The invariant: the columns before x are noted, those from x on are as they were.
-use native.Mathlib.Omega.{arith}
 use lib.ListN.{length}
 use Prim.Native.Nat.{◌+◌, ◌-◌, ◌*◌, ◌≤◌}
 use Rattle.board_tiles.specs.Tiles.{TILE}
 use Rattle.board_tiles.specs.Noted.{below, Noted}
-use Rattle.board_tiles.proofs.Noting.{noted_none, noted_more, noted_all}
 use Rattle.board_tiles.proofs.note_eight.Given as goal
 
 abbrev pub invariant-loop-x : goal.invariant-loop-x

@@ -1,12 +1,9 @@
 -- `note_row` meets its contract. The invariant: the columns before x are noted, those from x on are as they were.
-use native.Mathlib.Omega.{arith}
 use lib.ListN.{length, get_or}
-use mathlib.Core.Bool.{Bool, ◌||◌}
-use mathlib.Core.Path.{ap, ap₂, ◌∙◌}
+use mathlib.Core.Bool.{◌||◌}
 use Prim.Native.Nat.{◌+◌, ◌-◌, ◌≤◌}
 use Rattle.board_tiles.specs.Tiles.{changed}
 use Rattle.board_tiles.specs.Noted.{tells, Noted}
-use Rattle.board_tiles.proofs.Noting.{noted_none, noted_more, noted_all, tells_or}
 use Rattle.board_tiles.proofs.note_row.Given as goal
 
 abbrev pub invariant-loop-x : goal.invariant-loop-x

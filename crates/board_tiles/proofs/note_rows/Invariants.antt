@@ -1,13 +1,6 @@
 -- `note_rows` meets its contract: nothing is noted at first, and each turn notes one row more.
-use native.Mathlib.Omega.{arith}
-use mathlib.Core.Path.{refl, ◌∙◌}
-use mathlib.Core.List.{◌++◌}
-use lib.ListN.{drop}
-use Prim.Native.Nat.{◌+◌, ◌-◌}
-use borrow.Author.Rules.{rules}
-use Rattle.board_tiles.specs.Tiles.{any}
-use Rattle.board_tiles.specs.Noted.{below, Noted}
-use Rattle.board_tiles.proofs.Noting.{Rows, cleared, rows_first, rows_fit, rows_again, rows_done}
+use Prim.Native.Nat.{◌-◌}
+use Rattle.board_tiles.proofs.Noting.{Rows}
 use Rattle.board_tiles.proofs.note_rows.Given as goal
 
 abbrev pub invariant-loop-y : goal.invariant-loop-y

@@ -2,7 +2,6 @@
 use native.Mathlib.Omega.{arith}
 use mathlib.Core.Path.{refl}
 use Prim.Native.Nat.{◌-◌, ◌*◌}
-use borrow.Author.Rules.{rules}
 use Rattle.board_tiles.specs.Tiles.{TILE}
 use Rattle.board_tiles.proofs.Noting.{rows_inside, noted_ext, column_is}
 use Rattle.board_tiles.proofs.note_tiles.Goals as goal

@@ -1,11 +1,8 @@
 -- `store_words` meets its contract: each turn stores the word of one tile row more.
 use native.Mathlib.Omega.{arith}
 use mathlib.Core.Path.{refl, sym}
-use Prim.Native.Nat.{◌-◌}
-use borrow.Author.Rules.{rules}
-use Rattle.board_tiles.specs.Tiles.{tiles}
 use Rattle.board_tiles.proofs.Noting.{room_within}
-use Rattle.board_tiles.proofs.Storing.{Storing, storing_first, row_inside, storing_again, storing_done}
+use Rattle.board_tiles.proofs.Storing.{storing_first, row_inside, storing_again, storing_done}
 use Rattle.board_tiles.proofs.store_words.Goals as goal
 
 pub loop-j-init : goal.loop-j-init

@@ -1,6 +1,5 @@
 -- `tile_noted` meets its contract: bytes joined by or are 0 exactly if each is.
 use mathlib.Core.Path.{refl}
-use borrow.Author.Rules.{rules}
 use Rattle.board_tiles.proofs.Noting.{eight_beside}
 use Rattle.board_tiles.proofs.tile_noted.Goals as goal
 

@@ -1,6 +1,5 @@
 -- `tile_row` meets its contract: a word's bits are its marks.
 use native.Mathlib.Omega.{arith}
-use borrow.Author.Rules.{rules}
 use Rattle.board_tiles.proofs.Marking.{ones_count, trailing_first, row_is}
 use Rattle.board_tiles.proofs.tile_row.Goals as goal
 

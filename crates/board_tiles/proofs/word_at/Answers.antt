@@ -1,5 +1,4 @@
 -- `word_at` meets its contract: the columns noted are the tile row's, so that its tiles are.
-use borrow.Author.Rules.{rules}
 use Rattle.board_tiles.proofs.Noting.{made}
 use Rattle.board_tiles.proofs.word_at.Goals as goal
 

@@ -1,12 +1,8 @@
 -- `word_of` meets its contract. The invariant: the word of the tiles from i on; a turn shifts the bit of the tile before them in.
 use native.Mathlib.Omega.{arith}
-use lib.ListN.{length}
 use mathlib.Core.Bool.{true, false}
 use mathlib.Core.Path.{refl, sym, ◌∙◌}
-use Prim.Native.Nat.{◌*◌, ◌≤◌}
-use Rattle.board_tiles.specs.Tiles.{TILE}
-use Rattle.board_tiles.specs.Noted.{noted}
-use Rattle.board_tiles.proofs.Marking.{Spelling, spelling_first, spelling_room, spelling_again, spelling_done}
+use Rattle.board_tiles.proofs.Marking.{spelling_first, spelling_room, spelling_again, spelling_done}
 use Rattle.board_tiles.proofs.word_of.Goals as goal
 
 pub loop-i-init : goal.loop-i-init
