@@ -15,26 +15,16 @@ use Rattle.reel_build.proofs.Laws.{refused_keeps}
 use Rattle.reel_close.proofs.Laws.{close_few, close_time, close_size, close_short, close_second_short, Passed, close_laid}
 use Rattle.reel_close.proofs.close_reel.Goals as goal
 
--- the pairs as they were lent
-abbrev first : tie.Start → State
-first c = state c.args.first_picture.now c.args.first_palette.now
-
-abbrev second : tie.Start → State
-second c = state c.args.second_picture.now c.args.second_palette.now
-
-abbrev found : tie.Start → Memory
-found c = lent_bytes_pairs c.args.bytes.now (first c) (second c)
-
 pub returns-then-not-close_ok : goal.returns-then-not-close_ok
 returns-then-not-close_ok c =
     let a = c in
-    refused_keeps _ _ _ _ c.refused.ensures (found a) ∙ sym (close_time a.args.reel a.args.bytes.now (first a) (second a) (sym c.close_ok.ensures ∙ c.if-not-close_ok.true))
+    refused_keeps _ _ _ _ c.refused.ensures (lent_bytes_pairs c.args.bytes.now ((state c.args.first_picture.now c.args.first_palette.now) ((state c.args.second_picture.now c.args.second_palette.now)) ∙ sym (close_time a.args.reel a.args.bytes.now (state c.args.first_picture.now c.args.first_palette.now) (state c.args.second_picture.now c.args.second_palette.now) (sym c.close_ok.ensures ∙ c.if-not-close_ok.true))
 
 pub returns-then-not-size_fits : goal.returns-then-not-size_fits
 returns-then-not-size_fits c =
     let a = c in
-    refused_keeps _ _ _ _ c.refused-then-not-size_fits.ensures (found a)
-    ∙ sym (close_size a.args.reel a.args.bytes.now (first a) (second a) (sym c.close_ok.ensures ∙ c.if-not-close_ok.false) (sym c.size_fits.ensures ∙ c.if-not-size_fits.true))
+    refused_keeps _ _ _ _ c.refused-then-not-size_fits.ensures (lent_bytes_pairs c.args.bytes.now ((state c.args.first_picture.now c.args.first_palette.now) ((state c.args.second_picture.now c.args.second_palette.now))
+    ∙ sym (close_size a.args.reel a.args.bytes.now (state c.args.first_picture.now c.args.first_palette.now) (state c.args.second_picture.now c.args.second_palette.now) (sym c.close_ok.ensures ∙ c.if-not-close_ok.false) (sym c.size_fits.ensures ∙ c.if-not-size_fits.true))
 
 pub overflow_mul-n : goal.overflow_mul-n
 overflow_mul-n c = let z = c.args.reel.size in omega (arith, (size_in_lem z (sym c.size_fits.ensures ∙ c.if-not-size_fits.false)).area)
@@ -42,40 +32,49 @@ overflow_mul-n c = let z = c.args.reel.size in omega (arith, (size_in_lem z (sym
 pub returns-then-not-holds : goal.returns-then-not-holds
 returns-then-not-holds c =
     let a = c in
-    refused_keeps _ _ _ _ c.refused-then-not-holds.ensures (found a)
-    ∙ sym (close_short a.args.reel a.args.bytes.now (first a) (second a) (sym c.close_ok.ensures ∙ c.if-not-close_ok.false) (sym c.size_fits.ensures ∙ c.if-not-size_fits.false)
+    refused_keeps _ _ _ _ c.refused-then-not-holds.ensures (lent_bytes_pairs c.args.bytes.now ((state c.args.first_picture.now c.args.first_palette.now) ((state c.args.second_picture.now c.args.second_palette.now))
+    ∙ sym (close_short a.args.reel a.args.bytes.now (state c.args.first_picture.now c.args.first_palette.now) (state c.args.second_picture.now c.args.second_palette.now) (sym c.close_ok.ensures ∙ c.if-not-close_ok.false) (sym c.size_fits.ensures ∙ c.if-not-size_fits.false)
     (sym c.holds.ensures ∙ c.if-not-holds.true))
 
 pub returns-then-not-holds-2 : goal.returns-then-not-holds-2
 returns-then-not-holds-2 c =
     let a = c in
-    refused_keeps _ _ _ _ c.refused-then-not-holds-2.ensures (found a)
-    ∙ sym (close_second_short a.args.reel a.args.bytes.now (first a) (second a) (sym c.close_ok.ensures ∙ c.if-not-close_ok.false) (sym c.size_fits.ensures ∙ c.if-not-size_fits.false)
+    refused_keeps _ _ _ _ c.refused-then-not-holds-2.ensures (lent_bytes_pairs c.args.bytes.now ((state c.args.first_picture.now c.args.first_palette.now) ((state c.args.second_picture.now c.args.second_palette.now))
+    ∙ sym (close_second_short a.args.reel a.args.bytes.now (state c.args.first_picture.now c.args.first_palette.now) (state c.args.second_picture.now c.args.second_palette.now) (sym c.close_ok.ensures ∙ c.if-not-close_ok.false) (sym c.size_fits.ensures ∙ c.if-not-size_fits.false)
     (sym c.holds.ensures ∙ c.if-not-holds.false) (sym c.holds-2.ensures ∙ c.if-not-holds-2.true))
 
 pub slice_bounds-close_frames-end : goal.slice_bounds-close_frames-end
-slice_bounds-close_frames-end c = let a = c in (enough_in (area a.args.reel.size) (first a) (record { taken = sym c.close_ok.ensures ∙ c.if-not-close_ok.false; sized = sym c.size_fits.ensures ∙ c.if-not-size_fits.false; first_long = sym c.holds.ensures ∙ c.if-not-holds.false; second_long = sym c.holds-2.ensures ∙ c.if-not-holds-2.false; }).first_long).0
+slice_bounds-close_frames-end c =
+    let p : Passed c.args.reel (state c.args.first_picture.now c.args.first_palette.now) (state c.args.second_picture.now c.args.second_palette.now) = record { taken = sym c.close_ok.ensures ∙ c.if-not-close_ok.false; sized = sym c.size_fits.ensures ∙ c.if-not-size_fits.false; first_long = sym c.holds.ensures ∙ c.if-not-holds.false; second_long = sym c.holds-2.ensures ∙ c.if-not-holds-2.false } in
+    let a = c in (enough_in (area a.args.reel.size) (state c.args.first_picture.now c.args.first_palette.now) p.first_long).0
 
 pub slice_bounds-close_frames-end-2 : goal.slice_bounds-close_frames-end-2
-slice_bounds-close_frames-end-2 c = let a = c in (enough_in (area a.args.reel.size) (first a) (record { taken = sym c.close_ok.ensures ∙ c.if-not-close_ok.false; sized = sym c.size_fits.ensures ∙ c.if-not-size_fits.false; first_long = sym c.holds.ensures ∙ c.if-not-holds.false; second_long = sym c.holds-2.ensures ∙ c.if-not-holds-2.false; }).first_long).1
+slice_bounds-close_frames-end-2 c =
+    let p : Passed c.args.reel (state c.args.first_picture.now c.args.first_palette.now) (state c.args.second_picture.now c.args.second_palette.now) = record { taken = sym c.close_ok.ensures ∙ c.if-not-close_ok.false; sized = sym c.size_fits.ensures ∙ c.if-not-size_fits.false; first_long = sym c.holds.ensures ∙ c.if-not-holds.false; second_long = sym c.holds-2.ensures ∙ c.if-not-holds-2.false } in
+    let a = c in (enough_in (area a.args.reel.size) (state c.args.first_picture.now c.args.first_palette.now) p.first_long).1
 
 pub slice_bounds-close_frames-end-3 : goal.slice_bounds-close_frames-end-3
-slice_bounds-close_frames-end-3 c = let a = c in (enough_in (area a.args.reel.size) (second a) (record { taken = sym c.close_ok.ensures ∙ c.if-not-close_ok.false; sized = sym c.size_fits.ensures ∙ c.if-not-size_fits.false; first_long = sym c.holds.ensures ∙ c.if-not-holds.false; second_long = sym c.holds-2.ensures ∙ c.if-not-holds-2.false; }).second_long).0
+slice_bounds-close_frames-end-3 c =
+    let p : Passed c.args.reel (state c.args.first_picture.now c.args.first_palette.now) (state c.args.second_picture.now c.args.second_palette.now) = record { taken = sym c.close_ok.ensures ∙ c.if-not-close_ok.false; sized = sym c.size_fits.ensures ∙ c.if-not-size_fits.false; first_long = sym c.holds.ensures ∙ c.if-not-holds.false; second_long = sym c.holds-2.ensures ∙ c.if-not-holds-2.false } in
+    let a = c in (enough_in (area a.args.reel.size) (state c.args.second_picture.now c.args.second_palette.now) p.second_long).0
 
 pub slice_bounds-close_frames-end-4 : goal.slice_bounds-close_frames-end-4
-slice_bounds-close_frames-end-4 c = let a = c in (enough_in (area a.args.reel.size) (second a) (record { taken = sym c.close_ok.ensures ∙ c.if-not-close_ok.false; sized = sym c.size_fits.ensures ∙ c.if-not-size_fits.false; first_long = sym c.holds.ensures ∙ c.if-not-holds.false; second_long = sym c.holds-2.ensures ∙ c.if-not-holds-2.false; }).second_long).1
+slice_bounds-close_frames-end-4 c =
+    let p : Passed c.args.reel (state c.args.first_picture.now c.args.first_palette.now) (state c.args.second_picture.now c.args.second_palette.now) = record { taken = sym c.close_ok.ensures ∙ c.if-not-close_ok.false; sized = sym c.size_fits.ensures ∙ c.if-not-size_fits.false; first_long = sym c.holds.ensures ∙ c.if-not-holds.false; second_long = sym c.holds-2.ensures ∙ c.if-not-holds-2.false } in
+    let a = c in (enough_in (area a.args.reel.size) (state c.args.second_picture.now c.args.second_palette.now) p.second_long).1
 
 pub close_frames-requires : goal.close_frames-requires
 close_frames-requires c =
+    let p : Passed c.args.reel (state c.args.first_picture.now c.args.first_palette.now) (state c.args.second_picture.now c.args.second_palette.now) = record { taken = sym c.close_ok.ensures ∙ c.if-not-close_ok.false; sized = sym c.size_fits.ensures ∙ c.if-not-size_fits.false; first_long = sym c.holds.ensures ∙ c.if-not-holds.false; second_long = sym c.holds-2.ensures ∙ c.if-not-holds-2.false } in
     let a = c in
     let z = a.args.reel.size in
-    let p = record { taken = sym c.close_ok.ensures ∙ c.if-not-close_ok.false; sized = sym c.size_fits.ensures ∙ c.if-not-size_fits.false; first_long = sym c.holds.ensures ∙ c.if-not-holds.false; second_long = sym c.holds-2.ensures ∙ c.if-not-holds-2.false; } in
     let f = close_few a.args.reel.frames a.args.reel.closed p.taken in
-    (f.0, f.1, front_exact z (first a) p.sized (area z - 0) (omega arith) p.first_long, front_exact z (second a) p.sized (area z - 0) (omega arith) p.second_long)
+    (f.0, f.1, front_exact z (state c.args.first_picture.now c.args.first_palette.now) p.sized (area z - 0) (omega arith) p.first_long, front_exact z (state c.args.second_picture.now c.args.second_palette.now) p.sized (area z - 0) (omega arith) p.second_long)
 
 pub returns : goal.returns
 returns c =
+    let p : Passed c.args.reel (state c.args.first_picture.now c.args.first_palette.now) (state c.args.second_picture.now c.args.second_palette.now) = record { taken = sym c.close_ok.ensures ∙ c.if-not-close_ok.false; sized = sym c.size_fits.ensures ∙ c.if-not-size_fits.false; first_long = sym c.holds.ensures ∙ c.if-not-holds.false; second_long = sym c.holds-2.ensures ∙ c.if-not-holds-2.false } in
     let a = c in
     let f = c.close_frames in
-    close_laid a.args.reel a.args.bytes.now (first a) (second a) (record { taken = sym c.close_ok.ensures ∙ c.if-not-close_ok.false; sized = sym c.size_fits.ensures ∙ c.if-not-size_fits.false; first_long = sym c.holds.ensures ∙ c.if-not-holds.false; second_long = sym c.holds-2.ensures ∙ c.if-not-holds-2.false; }) (area a.args.reel.size - 0) (omega arith)
+    close_laid a.args.reel a.args.bytes.now (state c.args.first_picture.now c.args.first_palette.now) (state c.args.second_picture.now c.args.second_palette.now) p (area a.args.reel.size - 0) (omega arith)
     (builds f.result.reel (leaves (told f.result.answer) (lent_bytes f.new.bytes))) _ _ f.ensures.bytes f.ensures.first f.ensures.second

@@ -10,17 +10,13 @@ use Rattle.reel_build.proofs.Laws.{refused_keeps}
 use Rattle.reel_close.proofs.Laws.{ring_done, ring_refused}
 use Rattle.reel_close.proofs.put_ring.Goals as goal
 
--- the ring that is asked for
-abbrev ring : tie.Start → List ℕ
-ring c = let a = c.args in house_frame a.reel.size (state a.last_picture.now a.last_palette.now) (state a.one_picture.now a.one_palette.now)
-
 pub returns-in-Refused : goal.returns-in-Refused
 returns-in-Refused c =
     let p = c.append in
     refused_keeps _ _ _ _ c.refused.ensures (lent_bytes p.new.bytes)
-    ∙ ring_refused c.args.reel (ring (c)) c.args.bytes.now p.result p.new.bytes p.ensures _ _ c.in-Refused.is
+    ∙ ring_refused c.args.reel (house_frame c.args.reel.size (state c.args.last_picture.now c.args.last_palette.now) (state c.args.one_picture.now c.args.one_palette.now)) c.args.bytes.now p.result p.new.bytes p.ensures _ _ c.in-Refused.is
 
 pub returns-in-Done : goal.returns-in-Done
 returns-in-Done c =
     let p = c.append in
-    ring_done c.args.reel (ring (c)) c.args.bytes.now p.result p.new.bytes p.ensures _ c.in-Done.is c.second_at-second.result _ c.second_at-second.ensures c.close_header.ensures
+    ring_done c.args.reel (house_frame c.args.reel.size (state c.args.last_picture.now c.args.last_palette.now) (state c.args.one_picture.now c.args.one_palette.now)) c.args.bytes.now p.result p.new.bytes p.ensures _ c.in-Done.is c.second_at-second.result _ c.second_at-second.ensures c.close_header.ensures
