@@ -1,11 +1,7 @@
 -- Invariant: size is the bytes of the stretches before entry i, and what is left is those from entry i on.
-use Rattle.house_colour.proofs.Laws.{packet_length, body_length}
-use Rattle.house_colour.specs.Colours.{changed_entries, colour_packet}
-use Rattle.house_cells.proofs.StretchLaws.{Measured, measured_first, measured_on, measured_all}
-use native.Mathlib.Omega.{arith}
-use Prim.Native.Nat.{◌-◌, ◌≤◌, ◌*◌, ◌+◌}
-use mathlib.Core.Path.{sym}
-use borrow.Author.Rules.{rules}
+use Rattle.house_colour.specs.Colours.{colour_packet}
+use Rattle.house_cells.proofs.StretchLaws.{Measured}
+use Prim.Native.Nat.{◌-◌, ◌≤◌, ◌*◌}
 use Rattle.house_colour.proofs.colour_size.Given as goal
 
 abbrev pub invariant-loop-s : goal.invariant-loop-s

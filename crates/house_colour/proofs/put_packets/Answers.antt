@@ -1,15 +1,12 @@
 -- Invariant: all packets stored at at are the count stored so far, and the packets from entry i on stored at here.
 use Rattle.house_colour.proofs.Laws.{packet_lent}
 use Rattle.house_colour.specs.Colours.{changed_entries, colour_packet}
-use Rattle.house_cells.proofs.StretchLaws.{Measured, measured_first, measured_on, measured_all, Written, written_first, written_room, written_on, written_all}
+use Rattle.house_cells.proofs.StretchLaws.{measured_first, measured_on, measured_all, written_first, written_room, written_on, written_all}
 use Rattle.house_cells.proofs.CellLaws.{flat_map_each}
-use Rattle.house_cells.specs.Cells.{Stretch}
 use lib.ListN.{length}
 use native.Mathlib.Omega.{arith}
-use Prim.Native.Nat.{◌-◌, ◌≤◌}
+use Prim.Native.Nat.{◌≤◌}
 use mathlib.Core.Path.{refl, ap, ◌∙◌}
-use mathlib.Core.List.{List, [], ◌∷◌}
-use borrow.Author.Rules.{rules}
 use Rattle.house_colour.proofs.put_packets.Invariants.{each}
 use Rattle.house_colour.proofs.put_packets.Goals as goal
 

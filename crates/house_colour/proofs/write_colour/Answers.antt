@@ -1,7 +1,6 @@
 -- The packets, and then the packet count in front of them.
 use Rattle.house_colour.proofs.Laws.{body_length, body_stored}
 use native.Mathlib.Omega.{arith}
-use borrow.Author.Rules.{rules}
 use Rattle.house_colour.proofs.write_colour.Goals as goal
 
 pub put_packets-count-requires : goal.put_packets-count-requires

@@ -1,10 +1,6 @@
 -- `all_zero` meets its contract. The invariant: the picture is all 0 exactly if it is from pixel i on.
-use mathlib.Core.Path.{◌≡◌, ◌∙◌, sym}
-use Prim.Native.Nat.{◌-◌}
-use borrow.Author.Rules.{rules}
-use lib.ListN.{length}
-use Rattle.house_full.specs.Full.{all_zero}
-use Rattle.house_full.proofs.Laws.{zero_from, zero_first, zero_goes, zero_stops, zero_ends}
+use mathlib.Core.Path.{◌∙◌, sym}
+use Rattle.house_full.proofs.Laws.{zero_first, zero_goes, zero_stops, zero_ends}
 use Rattle.house_full.proofs.all_zero.Goals as goal
 
 pub loop-i-init : goal.loop-i-init

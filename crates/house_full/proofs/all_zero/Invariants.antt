@@ -1,10 +1,9 @@
 -- `all_zero` meets its contract. The invariant: the picture is all 0 exactly if it is from pixel i on.
-use mathlib.Core.Path.{◌≡◌, ◌∙◌, sym}
+use mathlib.Core.Path.{◌≡◌}
 use Prim.Native.Nat.{◌-◌}
-use borrow.Author.Rules.{rules}
 use lib.ListN.{length}
 use Rattle.house_full.specs.Full.{all_zero}
-use Rattle.house_full.proofs.Laws.{zero_from, zero_first, zero_goes, zero_stops, zero_ends}
+use Rattle.house_full.proofs.Laws.{zero_from}
 use Rattle.house_full.proofs.all_zero.Given as goal
 
 abbrev pub invariant-loop-i : goal.invariant-loop-i

@@ -1,11 +1,5 @@
 -- `brun_size` meets its contract. The invariant: size and the size of the rows left make the body's, and what is planned of them would make the plan whole; no row takes over three bytes a pixel, so the sums fit.
-use mathlib.Core.Path.{sym, ◌∙◌}
-use Prim.Native.Nat.{◌+◌, ◌-◌, ◌≤◌}
-use native.Mathlib.Omega.{arith}
-use borrow.Author.Rules.{rules}
-use lib.ListN.{length}
-use Rattle.words.proofs.Laws.{span_length}
-use Rattle.house_full.proofs.Laws.{sized_small, row_length, Measuring, measuring_first, measured_in, measuring_more, measuring_done, measured_types}
+use Rattle.house_full.proofs.Laws.{Measuring}
 use Rattle.house_full.proofs.brun_size.Given as goal
 
 abbrev pub invariant-loop-left : goal.invariant-loop-left

@@ -1,7 +1,6 @@
 -- `measure_full` meets its contract: the tests are the definition's, a black chunk being no longer than any; rows are planned unless the picture is all 0.
 use mathlib.Core.Path.{sym, ◌∙◌}
 use native.Mathlib.Omega.{arith}
-use borrow.Author.Rules.{rules}
 use Rattle.house_full.proofs.Laws.{black_taken, brun_taken, copy_taken, taken_size, plan_kept, plan_made}
 use Rattle.house_full.proofs.measure_full.Goals as goal
 

@@ -1,8 +1,8 @@
 -- The invariant: what was counted and the edges of the rows left make all of them; a row has at most as many as pixels, so the sum fits.
 use mathlib.Core.Path.{◌≡◌, ap}
-use Prim.Native.Nat.{◌+◌, ◌-◌, ◌*◌, ◌≤◌}
+use mathlib.Core.List.{List}
+use Prim.Native.Nat.{ℕ, ◌+◌, ◌-◌, ◌*◌, ◌≤◌, ◌<◌}
 use native.Mathlib.Omega.{arith}
-use borrow.Author.Rules.{rules}
 use lib.Dec.{ltb}
 use lib.ListN.{length, take, drop}
 use lib.Seq.{drop-drop}
@@ -12,30 +12,27 @@ use Rattle.house_full.proofs.Laws.{sized_small, row_at, row_length, rows_left}
 use Rattle.house_full.proofs.more_edges.Goals as goal
 
 -- a row is left
-inside : (c : tie.In-loop invariant-loop decreases-loop) → c.before.loop.from + c.before.before.before.args.width ≤ length c.before.before.before.args.picture.now
-inside c = omega (arith, c.before.loop.invariant.0, rows_left c.before.before.before.args.width c.before.before.before.args.picture.now c.before.loop.from c.before.loop.left (c.before.loop.left - 1) (omega (arith, c.loop-test.true)) c.before.loop.invariant.0)
+inside : (width left start : ℕ) (q : List ℕ) → 0 < left → start + width * left ≡ length q → start + width ≤ length q
+inside width left start q h e = omega (arith, rows_left width q start left (left - 1) (omega arith) e)
 
 -- it has at most as many edges as pixels
-few : (c : tie.After-row-edges invariant-loop decreases-loop) → c.row-edges.result ≤ c.before.before.before.before.before.args.width
-few c =
-    let a = c.before.before.before.before.before.args in
-    let r = take (c.before.before.before.loop.from + a.width - c.before.before.before.loop.from) (drop c.before.before.before.loop.from a.picture.now) in
-    omega (arith, c.row-edges.ensures, edges_few r, row_length a.width c.before.before.before.loop.from a.picture.now (inside c.before.before))
+few : (width start n : ℕ) (q : List ℕ) → start + width ≤ length q → n ≡ edges (take (start + width - start) (drop start q)) → n ≤ width
+few width start n q h e = omega (arith, edges_few (take (start + width - start) (drop start q)), row_length width start q h)
 
 pub loop-left-init : goal.loop-left-init
 loop-left-init c = (omega (arith, c.requires.pixels), omega arith, omega arith)
 
 pub overflow_add-end : goal.overflow_add-end
-overflow_add-end c = omega (arith, inside c, sized_small c.requires)
+overflow_add-end c = omega (arith, inside c.args.width c.loop-left.left c.loop-left.from c.args.picture.now c.loop-left-test.true c.loop-left.invariant.0, sized_small c.requires)
 
 pub slice_bounds-row_edges-end : goal.slice_bounds-row_edges-end
-slice_bounds-row_edges-end c = inside c
+slice_bounds-row_edges-end c = inside c.args.width c.loop-left.left c.loop-left.from c.args.picture.now c.loop-left-test.true c.loop-left.invariant.0
 
 pub row_edges-requires : goal.row_edges-requires
-row_edges-requires c = rw (row_length c.args.width c.loop-left.from c.args.picture.now (inside c)) (c.requires.size.some_wide, c.requires.size.wide)
+row_edges-requires c = rw (row_length c.args.width c.loop-left.from c.args.picture.now (inside c.args.width c.loop-left.left c.loop-left.from c.args.picture.now c.loop-left-test.true c.loop-left.invariant.0)) (c.requires.size.some_wide, c.requires.size.wide)
 
 pub overflow_add-count : goal.overflow_add-count
-overflow_add-count c = omega (arith, few c, c.loop-left.invariant.1, inside c, sized_small c.requires)
+overflow_add-count c = omega (arith, few c.args.width c.loop-left.from c.row_edges.result c.args.picture.now (inside c.args.width c.loop-left.left c.loop-left.from c.args.picture.now c.loop-left-test.true c.loop-left.invariant.0) c.row_edges.ensures, c.loop-left.invariant.1, inside c.args.width c.loop-left.left c.loop-left.from c.args.picture.now c.loop-left-test.true c.loop-left.invariant.0, sized_small c.requires)
 
 pub loop-left-preserved : goal.loop-left-preserved
 loop-left-preserved c =
@@ -44,7 +41,7 @@ loop-left-preserved c =
     let q = a.picture.now in
     let some = c.loop-left-test.true in (
       rows_left a.width q l.from l.left (l.left - 1) (omega arith) l.invariant.0,
-      omega (arith, few c, l.invariant.1),
+      omega (arith, few c.args.width c.loop-left.from c.row_edges.result c.args.picture.now (inside c.args.width c.loop-left.left c.loop-left.from c.args.picture.now c.loop-left-test.true c.loop-left.invariant.0) c.row_edges.ensures, l.invariant.1),
       omega (arith, l.invariant.2, c.row_edges.ensures, all_more a.width l.left (drop l.from q) some, ap edges (row_at a.width l.from q), ap (all_edges a.width (l.left - 1)) (drop-drop a.width l.from q)),
     )
 

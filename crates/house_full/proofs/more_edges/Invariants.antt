@@ -1,14 +1,8 @@
 -- The invariant: what was counted and the edges of the rows left make all of them; a row has at most as many as pixels, so the sum fits.
-use mathlib.Core.Path.{◌≡◌, ap}
-use Prim.Native.Nat.{◌+◌, ◌-◌, ◌*◌, ◌≤◌}
-use native.Mathlib.Omega.{arith}
-use borrow.Author.Rules.{rules}
-use lib.Dec.{ltb}
-use lib.ListN.{length, take, drop}
-use lib.Seq.{drop-drop}
-use Rattle.house_full.specs.Edges.{edges, all_edges}
-use Rattle.house_full.proofs.Edges.{edges_few, all_none, all_more}
-use Rattle.house_full.proofs.Laws.{sized_small, row_at, row_length, rows_left}
+use mathlib.Core.Path.{◌≡◌}
+use Prim.Native.Nat.{◌+◌, ◌*◌, ◌≤◌}
+use lib.ListN.{length, drop}
+use Rattle.house_full.specs.Edges.{all_edges}
 use Rattle.house_full.proofs.more_edges.Given as goal
 
 abbrev pub invariant-loop-left : goal.invariant-loop-left

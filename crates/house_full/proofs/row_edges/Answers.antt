@@ -1,13 +1,8 @@
 -- The invariant: what was counted and the edges from here on make all of them.
-use mathlib.Core.Logic.{⊎_elim}
-use mathlib.Core.Path.{◌≡◌}
-use Prim.Native.Nat.{◌+◌, ◌-◌, ◌≤◌}
 use native.Mathlib.Omega.{arith}
-use borrow.Author.Rules.{rules}
-use lib.ListN.{length, drop}
-use Rattle.house_full.specs.Edges.{edges}
 use Rattle.house_full.proofs.Edges.{count_same, count_other, count_last}
 use Rattle.house_full.proofs.row_edges.Goals as goal
+use Rattle.house_full.proofs.row_edges.Goals.{then-row-i, else-row-i}
 
 pub loop-i-init : goal.loop-i-init
 loop-i-init c = (c.requires.0, omega arith, omega arith)
@@ -35,10 +30,10 @@ loop-i-preserved c =
     let s = c.args.row.now in
     let l = c.loop-i in
     let h = c.loop-i-test.true in
-    ⊎_elim {C = (l.i + 1 + 1 ≤ length s) × (c.if-row-i.count ≤ l.i + 1) × (c.if-row-i.count + edges (drop (l.i + 1) s) ≡ edges s)}
-    (λ w. (omega arith, omega (arith, w.1, l.invariant.1), omega (arith, w.1, l.invariant.2, count_other s l.i (omega arith) w.0.taken)))
-    (λ w. (omega arith, omega (arith, w.1, l.invariant.1), omega (arith, w.1, l.invariant.2, count_same s l.i (omega arith) w.0.left)))
-    c.if-row-i.branch
+    elim c.if-row-i.branch [
+      | then-row-i w ↦ (omega arith, omega (arith, w.count-is, l.invariant.1), omega (arith, w.count-is, l.invariant.2, count_other s l.i (omega arith) w.if-row-i.true))
+      | else-row-i w ↦ (omega arith, omega (arith, w.count-is, l.invariant.1), omega (arith, w.count-is, l.invariant.2, count_same s l.i (omega arith) w.if-row-i.false))
+    ]
 
 pub returns : goal.returns
 returns c = omega (arith, c.loop-i.invariant.2, count_last c.args.row.now c.loop-i.i (omega (arith, c.loop-i.invariant.0, c.loop-i-test.false)))

@@ -1,12 +1,8 @@
 -- The invariant: what was counted and the edges from here on make all of them.
-use mathlib.Core.Logic.{⊎_elim}
 use mathlib.Core.Path.{◌≡◌}
 use Prim.Native.Nat.{◌+◌, ◌-◌, ◌≤◌}
-use native.Mathlib.Omega.{arith}
-use borrow.Author.Rules.{rules}
 use lib.ListN.{length, drop}
 use Rattle.house_full.specs.Edges.{edges}
-use Rattle.house_full.proofs.Edges.{count_same, count_other, count_last}
 use Rattle.house_full.proofs.row_edges.Given as goal
 
 abbrev pub invariant-loop-i : goal.invariant-loop-i

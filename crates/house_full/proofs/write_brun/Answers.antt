@@ -1,7 +1,6 @@
 -- `write_brun` meets its contract. The invariant: the rows left, put at here, give what the contract says, and what is left of the plan is theirs.
 use native.Mathlib.Omega.{arith}
-use borrow.Author.Rules.{rules}
-use Rattle.house_full.proofs.Laws.{sized_small, row_length, Filling, filling_first, filled_in, filled_room, filled_types, filling_more, filling_done}
+use Rattle.house_full.proofs.Laws.{sized_small, row_length, filling_first, filled_in, filled_room, filled_types, filling_more, filling_done}
 use Rattle.house_full.proofs.write_brun.Goals as goal
 
 pub loop-left-init : goal.loop-left-init

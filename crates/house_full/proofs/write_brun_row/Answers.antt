@@ -1,6 +1,5 @@
 -- `write_brun_row` meets its contract: the packets are written first, and their count in front of them.
 use native.Mathlib.Omega.{arith}
-use borrow.Author.Rules.{rules}
 use Rattle.house_full.proofs.Laws.{length_row, put_row}
 use Rattle.house_full.proofs.write_brun_row.Goals as goal
 

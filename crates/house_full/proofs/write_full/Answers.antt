@@ -3,7 +3,6 @@ use mathlib.Core.Path.{sym, refl, ap, ◌∙◌}
 use mathlib.Core.List.{[]}
 use Prim.Native.Nat.{ℕ, ◌+◌}
 use native.Mathlib.Omega.{arith}
-use borrow.Author.Rules.{rules}
 use lib.ListN.{length}
 use Rattle.words.specs.Writes.{put}
 use Rattle.words.proofs.Laws.{put_nil, put_header_first, put_header_last}

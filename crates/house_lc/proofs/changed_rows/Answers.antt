@@ -1,7 +1,6 @@
 -- The first changed row is behind the run of unchanged ones; where none is changed, the last one is before it.
 use Rattle.house_lc.proofs.RowLaws.{first_is, count_is}
 use native.Mathlib.Omega.{arith}
-use borrow.Author.Rules.{rules}
 use Rattle.house_lc.proofs.changed_rows.Goals as goal
 
 pub returns-then-end-first : goal.returns-then-end-first

@@ -4,7 +4,6 @@ use Rattle.house_cells.proofs.EachLaws.{cells_inside}
 use lib.ListN.{length}
 use native.Mathlib.Omega.{arith}
 use Prim.Native.Nat.{◌+◌}
-use borrow.Author.Rules.{rules}
 use Rattle.house_lc.proofs.delta_size.Goals as goal
 
 pub lines_size-requires : goal.lines_size-requires

@@ -8,7 +8,6 @@ use Rattle.house_packets.specs.Packets.{bytes}
 use lib.ListN.{length}
 use native.Mathlib.Omega.{arith}
 use mathlib.Core.Path.{ap}
-use borrow.Author.Rules.{rules}
 use Rattle.house_lc.proofs.line_size.Goals as goal
 
 pub returns : goal.returns

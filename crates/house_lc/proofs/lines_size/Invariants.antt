@@ -1,10 +1,6 @@
 -- Invariant: size is the bytes of the lines before row r, and the left rows from row r on give the rest.
 use Rattle.house_lc.specs.Line.{line, line_most}
-use Rattle.house_cells.proofs.EachLaws.{cell_inside, cells_few, Sizing, sizing_first, sizing_on, sizing_ends}
-use lib.ListN.{length}
-use native.Mathlib.Omega.{arith}
-use Prim.Native.Nat.{◌+◌, ◌<◌}
-use borrow.Author.Rules.{rules}
+use Rattle.house_cells.proofs.EachLaws.{Sizing}
 use Rattle.house_lc.proofs.lines_size.Given as goal
 
 abbrev pub invariant-loop-left : goal.invariant-loop-left

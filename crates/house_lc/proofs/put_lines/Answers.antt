@@ -1,10 +1,9 @@
 -- Invariant: all lines stored at at are those stored so far, and those of the left rows from row r on stored at here.
 use Rattle.house_lc.specs.Line.{line}
-use Rattle.house_cells.proofs.EachLaws.{cell_inside, cells_few, Storing, storing_first, storing_room, storing_on, storing_ends}
+use Rattle.house_cells.proofs.EachLaws.{cell_inside, cells_few, storing_first, storing_room, storing_on, storing_ends}
 use lib.ListN.{length}
 use native.Mathlib.Omega.{arith}
 use Prim.Native.Nat.{◌+◌, ◌<◌}
-use borrow.Author.Rules.{rules}
 use Rattle.house_lc.proofs.put_lines.Goals as goal
 
 pub loop-left-init : goal.loop-left-init

@@ -2,7 +2,6 @@
 use Rattle.house_cells.proofs.EachLaws.{lent_row}
 use Rattle.house_cells.specs.Cells.{stays}
 use mathlib.Core.Path.{ap, ◌∙◌}
-use borrow.Author.Rules.{rules}
 use Rattle.house_lc.proofs.row_stays.Goals as goal
 
 pub returns : goal.returns

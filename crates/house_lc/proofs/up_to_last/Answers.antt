@@ -1,11 +1,9 @@
 -- Invariant: no row from row r on is changed.
-use Rattle.house_lc.proofs.RowLaws.{Still, still_first, still_on, still_stops, still_ends}
+use Rattle.house_lc.proofs.RowLaws.{still_first, still_on, still_stops, still_ends}
 use Rattle.house_cells.proofs.EachLaws.{cell_inside}
 use lib.ListN.{length}
 use native.Mathlib.Omega.{arith}
 use Prim.Native.Nat.{◌-◌, ◌<◌}
-use borrow.Author.Tests.{not-true, not-false}
-use borrow.Author.Rules.{rules}
 use Rattle.house_lc.proofs.up_to_last.Goals as goal
 
 pub loop-r-init : goal.loop-r-init
@@ -22,13 +20,13 @@ pub returns-then-not-row_stays : goal.returns-then-not-row_stays
 returns-then-not-row_stays c =
     let a = c.args in
     let l = c.loop-r in
-    still_stops a.width a.height a.previous.now a.next.now l.r (l.r - 1) c.row_stays.result (omega (arith, c.loop-r-test.true)) l.invariant c.row_stays.ensures (not-true c.row_stays.result c.if-not-row_stays.true)
+    still_stops a.width a.height a.previous.now a.next.now l.r (l.r - 1) c.row_stays.result (omega (arith, c.loop-r-test.true)) l.invariant c.row_stays.ensures c.if-not-row_stays.true
 
 pub loop-r-preserved : goal.loop-r-preserved
 loop-r-preserved c =
     let a = c.args in
     let l = c.loop-r in
-    still_on a.width a.height a.previous.now a.next.now l.r (l.r - 1) c.row_stays.result (omega (arith, c.loop-r-test.true)) l.invariant c.row_stays.ensures (not-false c.row_stays.result c.if-not-row_stays.false)
+    still_on a.width a.height a.previous.now a.next.now l.r (l.r - 1) c.row_stays.result (omega (arith, c.loop-r-test.true)) l.invariant c.row_stays.ensures c.if-not-row_stays.false
 
 pub returns : goal.returns
 returns c =

@@ -4,7 +4,6 @@ use Rattle.house_cells.proofs.EachLaws.{cells_inside}
 use lib.ListN.{length}
 use native.Mathlib.Omega.{arith}
 use Prim.Native.Nat.{◌+◌}
-use borrow.Author.Rules.{rules}
 use Rattle.house_lc.proofs.write_delta.Goals as goal
 
 pub put_u16-requires : goal.put_u16-requires

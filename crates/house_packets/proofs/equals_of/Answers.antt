@@ -1,12 +1,10 @@
 -- Invariant: the first j units are equal to unit v, and the count goes on from unit x + j.
-use Rattle.house_packets.proofs.UnitLaws.{Equal, equal_first, equal_on, equal_stops, equal_ends}
+use Rattle.house_packets.proofs.UnitLaws.{equal_first, equal_on, equal_stops, equal_ends}
 use Rattle.house_cells.proofs.EachLaws.{cell_inside, cells_few}
 use Rattle.house_packets.specs.Units.{unit_at}
 use lib.ListN.{length}
 use native.Mathlib.Omega.{arith}
-use Prim.Native.Nat.{◌-◌, ◌+◌}
-use borrow.Author.Tests.{not-true, not-false}
-use borrow.Author.Rules.{rules}
+use Prim.Native.Nat.{◌+◌}
 use Rattle.house_packets.proofs.equals_of.Goals as goal
 
 pub loop-j-init : goal.loop-j-init
@@ -25,14 +23,14 @@ returns-then-not-same_unit c =
     let a = c.args in
     let l = c.loop-j in
     let s = c.same_unit in
-    equal_stops (unit_at a.unit a.b.now a.v) a.unit a.b.now a.x a.m l.j l.invariant s.result c.loop-j-test.true s.ensures (not-true s.result c.if-not-same_unit.true)
+    equal_stops (unit_at a.unit a.b.now a.v) a.unit a.b.now a.x a.m l.j l.invariant s.result c.loop-j-test.true s.ensures c.if-not-same_unit.true
 
 pub loop-j-preserved : goal.loop-j-preserved
 loop-j-preserved c =
     let a = c.args in
     let l = c.loop-j in
     let s = c.same_unit in
-    equal_on (unit_at a.unit a.b.now a.v) a.unit a.b.now a.x a.m l.j l.invariant s.result c.loop-j-test.true s.ensures (not-false s.result c.if-not-same_unit.false)
+    equal_on (unit_at a.unit a.b.now a.v) a.unit a.b.now a.x a.m l.j l.invariant s.result c.loop-j-test.true s.ensures c.if-not-same_unit.false
 
 pub returns : goal.returns
 returns c =

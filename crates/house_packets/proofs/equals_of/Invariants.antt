@@ -1,12 +1,7 @@
 -- Invariant: the first j units are equal to unit v, and the count goes on from unit x + j.
-use Rattle.house_packets.proofs.UnitLaws.{Equal, equal_first, equal_on, equal_stops, equal_ends}
-use Rattle.house_cells.proofs.EachLaws.{cell_inside, cells_few}
+use Rattle.house_packets.proofs.UnitLaws.{Equal}
 use Rattle.house_packets.specs.Units.{unit_at}
-use lib.ListN.{length}
-use native.Mathlib.Omega.{arith}
-use Prim.Native.Nat.{◌-◌, ◌+◌}
-use borrow.Author.Tests.{not-true, not-false}
-use borrow.Author.Rules.{rules}
+use Prim.Native.Nat.{◌-◌}
 use Rattle.house_packets.proofs.equals_of.Given as goal
 
 abbrev pub invariant-loop-j : goal.invariant-loop-j

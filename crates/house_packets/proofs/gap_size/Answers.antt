@@ -1,10 +1,9 @@
 -- Invariant: size is that of the packets before unit i, and the left units from unit i on give the rest.
-use Rattle.house_packets.proofs.GapLaws.{Sizing, sizing_first, sizing_on, sizing_ends}
+use Rattle.house_packets.proofs.GapLaws.{sizing_first, sizing_on, sizing_ends}
 use Rattle.house_cells.proofs.EachLaws.{cells_few, cells_inside}
 use lib.ListN.{length}
 use Prim.Native.Nat.{◌+◌}
 use native.Mathlib.Omega.{arith}
-use borrow.Author.Rules.{rules}
 use Rattle.house_packets.proofs.gap_size.Goals as goal
 
 pub loop-left-init : goal.loop-left-init

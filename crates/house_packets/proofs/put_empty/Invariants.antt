@@ -1,12 +1,6 @@
 -- Invariant: of all s packets left are still to be stored at here.
-use Rattle.house_packets.proofs.GapLaws.{length_empty, empty_next, empty_none}
 use Rattle.house_packets.specs.Units.{empty_packets}
-use Rattle.house_cells.proofs.Ahead.{Ahead, ahead_first, ahead_room, ahead_on, ahead_ends}
-use native.Mathlib.Omega.{arith}
-use Prim.Native.Nat.{◌-◌}
-use mathlib.Core.Path.{refl}
-use mathlib.Core.List.{[], ◌∷◌}
-use borrow.Author.Rules.{rules}
+use Rattle.house_cells.proofs.Ahead.{Ahead}
 use Rattle.house_packets.proofs.put_empty.Given as goal
 
 abbrev pub invariant-loop-left : goal.invariant-loop-left

@@ -2,7 +2,6 @@
 use Rattle.house_packets.proofs.GapLaws.{gap_length, gap_stored}
 use Rattle.house_packets.specs.Units.{units_at}
 use native.Mathlib.Omega.{arith}
-use borrow.Author.Rules.{rules}
 use Rattle.house_packets.proofs.put_gap.Goals as goal
 
 pub put_empty-requires : goal.put_empty-requires

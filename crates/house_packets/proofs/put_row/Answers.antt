@@ -2,14 +2,13 @@
 use Rattle.house_packets.proofs.RowLaws.{stretch_bytes, row_stretches, row_bytes, stretch_gap, stretch_fits}
 use Rattle.house_cells.proofs.EachLaws.{cells_few, cells_inside}
 use Rattle.house_packets.specs.Packets.{bytes, stretch_packets}
-use Rattle.house_cells.proofs.StretchLaws.{Measured, measured_first, measured_on, measured_all, Written, written_first, written_room, written_on, written_all}
+use Rattle.house_cells.proofs.StretchLaws.{measured_first, measured_on, measured_all, written_first, written_room, written_on, written_all}
 use Rattle.format.specs.Limits.{max_width}
 use Rattle.words.specs.Writes.{put}
 use lib.ListN.{length}
 use native.Mathlib.Omega.{arith}
-use Prim.Native.Nat.{◌-◌, ◌≤◌, ◌*◌, ◌+◌}
+use Prim.Native.Nat.{◌≤◌, ◌+◌}
 use mathlib.Core.Path.{sym, ap, ◌∙◌}
-use borrow.Author.Rules.{rules}
 use Rattle.house_packets.proofs.put_row.Goals as goal
 
 pub loop-s-init : goal.loop-s-init

@@ -1,10 +1,9 @@
 -- Invariant: all packets stored at at are the count stored so far, and those of the left units from unit i on stored at here.
-use Rattle.house_packets.proofs.GapLaws.{Storing, storing_first, storing_room, storing_on, storing_ends}
+use Rattle.house_packets.proofs.GapLaws.{storing_first, storing_room, storing_on, storing_ends}
 use Rattle.house_cells.proofs.EachLaws.{cells_few, cells_inside}
 use lib.ListN.{length}
 use Prim.Native.Nat.{◌+◌}
 use native.Mathlib.Omega.{arith}
-use borrow.Author.Rules.{rules}
 use Rattle.house_packets.proofs.put_units.Goals as goal
 
 pub loop-left-init : goal.loop-left-init

@@ -4,7 +4,6 @@ use Rattle.house_cells.proofs.EachLaws.{cell_inside, cells_few, cells_inside}
 use lib.ListN.{length}
 use Prim.Native.Nat.{◌+◌}
 use native.Mathlib.Omega.{arith}
-use borrow.Author.Rules.{rules}
 use Rattle.house_packets.proofs.repeats_at.Goals as goal
 
 pub returns-then-m-least : goal.returns-then-m-least

@@ -2,14 +2,13 @@
 use Rattle.house_packets.proofs.RowLaws.{stretch_bytes, row_bytes, stretch_gap, stretch_fits}
 use Rattle.house_cells.proofs.EachLaws.{cells_few}
 use Rattle.house_packets.specs.Packets.{Packet, bytes}
-use Rattle.house_cells.proofs.StretchLaws.{Measured, measured_first, measured_on, measured_all}
+use Rattle.house_cells.proofs.StretchLaws.{measured_first, measured_on, measured_all}
 use Rattle.format.specs.Limits.{max_width}
 use lib.ListN.{length}
 use native.Mathlib.Omega.{arith}
-use Prim.Native.Nat.{◌-◌, ◌≤◌, ◌*◌}
+use Prim.Native.Nat.{◌≤◌}
 use mathlib.Core.Path.{sym, ap, ◌∙◌}
 use mathlib.Core.List.{List}
-use borrow.Author.Rules.{rules}
 use Rattle.house_packets.proofs.row_size.Goals as goal
 
 pub loop-s-init : goal.loop-s-init

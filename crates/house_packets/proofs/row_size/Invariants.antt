@@ -1,15 +1,7 @@
 -- Invariant: size is that of the stretches before unit i, and the stretches from unit i on give the rest.
-use Rattle.house_packets.proofs.RowLaws.{stretch_bytes, row_bytes, stretch_gap, stretch_fits}
-use Rattle.house_cells.proofs.EachLaws.{cells_few}
-use Rattle.house_packets.specs.Packets.{Packet, bytes}
-use Rattle.house_cells.proofs.StretchLaws.{Measured, measured_first, measured_on, measured_all}
-use Rattle.format.specs.Limits.{max_width}
-use lib.ListN.{length}
-use native.Mathlib.Omega.{arith}
+use Rattle.house_packets.proofs.RowLaws.{stretch_bytes}
+use Rattle.house_cells.proofs.StretchLaws.{Measured}
 use Prim.Native.Nat.{◌-◌, ◌≤◌, ◌*◌}
-use mathlib.Core.Path.{sym, ap, ◌∙◌}
-use mathlib.Core.List.{List}
-use borrow.Author.Rules.{rules}
 use Rattle.house_packets.proofs.row_size.Given as goal
 
 abbrev pub invariant-loop-s : goal.invariant-loop-s

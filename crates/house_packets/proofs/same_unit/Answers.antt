@@ -1,7 +1,6 @@
 -- The first bytes decide, or, where a unit has two, the second.
 use Prim.Native.Nat.{◌*◌}
 use Rattle.house_packets.proofs.UnitLaws.{unit_other, unit_one, unit_two}
-use borrow.Author.Rules.{rules}
 use Rattle.house_packets.proofs.same_unit.Goals as goal
 
 pub returns-then-b-i : goal.returns-then-b-i

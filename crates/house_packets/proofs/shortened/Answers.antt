@@ -1,6 +1,5 @@
 -- A gap up to the longest skip is not shortened, and for any other it is the same quotient.
 use Rattle.house_packets.proofs.GapLaws.{shortened_none, shortened_some}
-use borrow.Author.Rules.{rules}
 use Rattle.house_packets.proofs.shortened.Goals as goal
 
 pub returns-then-g-longest : goal.returns-then-g-longest

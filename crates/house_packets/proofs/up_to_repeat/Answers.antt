@@ -1,10 +1,9 @@
 -- Invariant: no repeat begins at the first j units, and the count goes on from unit x + j.
-use Rattle.house_packets.proofs.UnitLaws.{Single, single_first, single_on, single_stops, single_ends}
+use Rattle.house_packets.proofs.UnitLaws.{single_first, single_on, single_stops, single_ends}
 use Rattle.house_cells.proofs.EachLaws.{cells_few, cells_inside}
 use lib.ListN.{length}
 use native.Mathlib.Omega.{arith}
-use Prim.Native.Nat.{◌-◌, ◌+◌}
-use borrow.Author.Rules.{rules}
+use Prim.Native.Nat.{◌+◌}
 use Rattle.house_packets.proofs.up_to_repeat.Goals as goal
 
 pub loop-j-init : goal.loop-j-init

@@ -1,13 +1,11 @@
 -- Invariant: size is that of the stretches before row i, and the stretches from row i on give the rest.
 use Rattle.house_ss2.proofs.RowLaws.{stretch_length, body_length}
 use Rattle.house_ss2.specs.Delta.{stretch_lines, changed_rows}
-use Rattle.house_ss2.specs.Line.{line_most}
 use Rattle.house_cells.proofs.EachLaws.{cells_inside}
-use Rattle.house_cells.proofs.StretchLaws.{Measured, measured_first, measured_on, measured_all}
+use Rattle.house_cells.proofs.StretchLaws.{measured_first, measured_on, measured_all}
 use lib.ListN.{length}
 use native.Mathlib.Omega.{arith}
-use Prim.Native.Nat.{◌-◌, ◌+◌, ◌≤◌, ◌*◌}
-use borrow.Author.Rules.{rules}
+use Prim.Native.Nat.{◌+◌, ◌≤◌}
 use Rattle.house_ss2.proofs.delta_size.Goals as goal
 
 pub loop-s-init : goal.loop-s-init

@@ -1,6 +1,5 @@
 -- An even width has no last-pixel word, an odd one has it where the last pixels differ.
 use Rattle.house_ss2.proofs.LineLaws.{changes_even, changes_odd}
-use borrow.Author.Rules.{rules}
 use Rattle.house_ss2.proofs.last_changes.Goals as goal
 
 pub returns-then-width-eq0 : goal.returns-then-width-eq0

@@ -3,7 +3,6 @@ use Rattle.house_ss2.proofs.LineLaws.{pairs_form, line_last, line_plain, counted
 use lib.ListN.{length}
 use native.Mathlib.Omega.{arith}
 use mathlib.Core.Path.{sym, ap, ◌∙◌}
-use borrow.Author.Rules.{rules}
 use Rattle.house_ss2.proofs.line_size.Goals as goal
 
 pub row_size-size-requires : goal.row_size-size-requires

@@ -1,10 +1,9 @@
 -- Invariant: size is the bytes of the lines before row r, and the left rows from row r on give the rest.
 use Rattle.house_ss2.specs.Line.{line, line_most}
-use Rattle.house_cells.proofs.EachLaws.{cell_inside, cells_few, Sizing, sizing_first, sizing_on, sizing_ends}
+use Rattle.house_cells.proofs.EachLaws.{cell_inside, cells_few, sizing_first, sizing_on, sizing_ends}
 use lib.ListN.{length}
 use native.Mathlib.Omega.{arith}
 use Prim.Native.Nat.{◌+◌, ◌<◌}
-use borrow.Author.Rules.{rules}
 use Rattle.house_ss2.proofs.lines_size.Goals as goal
 
 pub loop-left-init : goal.loop-left-init

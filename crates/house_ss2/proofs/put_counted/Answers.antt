@@ -1,7 +1,6 @@
 -- The packets, and then their count in front of them.
 use Rattle.house_ss2.proofs.LineLaws.{pairs_form, counted_length, counted_stored}
 use native.Mathlib.Omega.{arith}
-use borrow.Author.Rules.{rules}
 use Rattle.house_ss2.proofs.put_counted.Goals as goal
 
 pub put_row-p-requires : goal.put_row-p-requires

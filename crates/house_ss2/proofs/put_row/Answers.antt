@@ -8,7 +8,6 @@ use lib.ListN.{length}
 use Prim.Native.Nat.{◌*◌}
 use native.Mathlib.Omega.{arith}
 use mathlib.Core.Path.{ap, ◌∙◌}
-use borrow.Author.Rules.{rules}
 use Rattle.house_ss2.proofs.put_row.Goals as goal
 
 pub put_line-requires : goal.put_line-requires

@@ -2,12 +2,11 @@
 use Rattle.house_ss2.proofs.RowLaws.{rows, stretch_rows}
 use Rattle.house_ss2.specs.Delta.{stretch_lines, changed_rows, line_count}
 use Rattle.house_cells.proofs.EachLaws.{cells_inside}
-use Rattle.house_cells.proofs.StretchLaws.{Measured, measured_first, measured_on, measured_all, Written, written_first, written_room, written_on, written_all}
+use Rattle.house_cells.proofs.StretchLaws.{measured_first, measured_on, measured_all, written_first, written_room, written_on, written_all}
 use lib.ListN.{length}
 use native.Mathlib.Omega.{arith}
-use Prim.Native.Nat.{◌-◌, ◌+◌, ◌≤◌}
+use Prim.Native.Nat.{◌+◌, ◌≤◌}
 use mathlib.Core.Path.{refl}
-use borrow.Author.Rules.{rules}
 use Rattle.house_ss2.proofs.put_rows.Goals as goal
 
 pub loop-s-init : goal.loop-s-init

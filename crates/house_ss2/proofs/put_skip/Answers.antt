@@ -5,7 +5,6 @@ use Rattle.words.proofs.Laws.{put_nil}
 use lib.ListN.{length}
 use native.Mathlib.Omega.{arith}
 use mathlib.Core.Path.{sym, ap, ◌∙◌}
-use borrow.Author.Rules.{rules}
 use Rattle.house_ss2.proofs.put_skip.Goals as goal
 
 pub returns-then-g-eq0 : goal.returns-then-g-eq0

@@ -4,7 +4,6 @@ use Rattle.house_cells.proofs.EachLaws.{cells_few}
 use lib.ListN.{length}
 use native.Mathlib.Omega.{arith}
 use Prim.Native.Nat.{◌+◌}
-use borrow.Author.Rules.{rules}
 use Rattle.house_ss2.proofs.put_stretch.Goals as goal
 
 pub put_skip-here-requires : goal.put_skip-here-requires

@@ -4,7 +4,6 @@ use Rattle.house_ss2.specs.Line.{line}
 use Rattle.house_cells.specs.Cells.{Cell}
 use lib.ListN.{length}
 use mathlib.Core.Path.{ap, ◌∙◌}
-use borrow.Author.Rules.{rules}
 use Rattle.house_ss2.proofs.row_size.Goals as goal
 
 pub returns : goal.returns

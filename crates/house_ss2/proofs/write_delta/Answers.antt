@@ -1,7 +1,6 @@
 -- The rows, and then the line count in front of them.
 use Rattle.house_ss2.proofs.RowLaws.{body_length, body_stored}
 use native.Mathlib.Omega.{arith}
-use borrow.Author.Rules.{rules}
 use Rattle.house_ss2.proofs.write_delta.Goals as goal
 
 pub put_rows-count-requires : goal.put_rows-count-requires
