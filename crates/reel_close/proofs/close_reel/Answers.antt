@@ -18,12 +18,12 @@ use Rattle.reel_close.proofs.close_reel.Goals as goal
 pub returns-then-not-close_ok : goal.returns-then-not-close_ok
 returns-then-not-close_ok c =
     let a = c in
-    refused_keeps _ _ _ _ c.refused.ensures (lent_bytes_pairs c.args.bytes.now ((state c.args.first_picture.now c.args.first_palette.now) ((state c.args.second_picture.now c.args.second_palette.now)) ∙ sym (close_time a.args.reel a.args.bytes.now (state c.args.first_picture.now c.args.first_palette.now) (state c.args.second_picture.now c.args.second_palette.now) (sym c.close_ok.ensures ∙ c.if-not-close_ok.true))
+    refused_keeps _ _ _ _ c.refused.ensures (lent_bytes_pairs c.args.bytes.now (state c.args.first_picture.now c.args.first_palette.now) (state c.args.second_picture.now c.args.second_palette.now)) ∙ sym (close_time a.args.reel a.args.bytes.now (state c.args.first_picture.now c.args.first_palette.now) (state c.args.second_picture.now c.args.second_palette.now) (sym c.close_ok.ensures ∙ c.if-not-close_ok.true))
 
 pub returns-then-not-size_fits : goal.returns-then-not-size_fits
 returns-then-not-size_fits c =
     let a = c in
-    refused_keeps _ _ _ _ c.refused-then-not-size_fits.ensures (lent_bytes_pairs c.args.bytes.now ((state c.args.first_picture.now c.args.first_palette.now) ((state c.args.second_picture.now c.args.second_palette.now))
+    refused_keeps _ _ _ _ c.refused-then-not-size_fits.ensures (lent_bytes_pairs c.args.bytes.now (state c.args.first_picture.now c.args.first_palette.now) (state c.args.second_picture.now c.args.second_palette.now))
     ∙ sym (close_size a.args.reel a.args.bytes.now (state c.args.first_picture.now c.args.first_palette.now) (state c.args.second_picture.now c.args.second_palette.now) (sym c.close_ok.ensures ∙ c.if-not-close_ok.false) (sym c.size_fits.ensures ∙ c.if-not-size_fits.true))
 
 pub overflow_mul-n : goal.overflow_mul-n
@@ -32,14 +32,14 @@ overflow_mul-n c = let z = c.args.reel.size in omega (arith, (size_in_lem z (sym
 pub returns-then-not-holds : goal.returns-then-not-holds
 returns-then-not-holds c =
     let a = c in
-    refused_keeps _ _ _ _ c.refused-then-not-holds.ensures (lent_bytes_pairs c.args.bytes.now ((state c.args.first_picture.now c.args.first_palette.now) ((state c.args.second_picture.now c.args.second_palette.now))
+    refused_keeps _ _ _ _ c.refused-then-not-holds.ensures (lent_bytes_pairs c.args.bytes.now (state c.args.first_picture.now c.args.first_palette.now) (state c.args.second_picture.now c.args.second_palette.now))
     ∙ sym (close_short a.args.reel a.args.bytes.now (state c.args.first_picture.now c.args.first_palette.now) (state c.args.second_picture.now c.args.second_palette.now) (sym c.close_ok.ensures ∙ c.if-not-close_ok.false) (sym c.size_fits.ensures ∙ c.if-not-size_fits.false)
     (sym c.holds.ensures ∙ c.if-not-holds.true))
 
 pub returns-then-not-holds-2 : goal.returns-then-not-holds-2
 returns-then-not-holds-2 c =
     let a = c in
-    refused_keeps _ _ _ _ c.refused-then-not-holds-2.ensures (lent_bytes_pairs c.args.bytes.now ((state c.args.first_picture.now c.args.first_palette.now) ((state c.args.second_picture.now c.args.second_palette.now))
+    refused_keeps _ _ _ _ c.refused-then-not-holds-2.ensures (lent_bytes_pairs c.args.bytes.now (state c.args.first_picture.now c.args.first_palette.now) (state c.args.second_picture.now c.args.second_palette.now))
     ∙ sym (close_second_short a.args.reel a.args.bytes.now (state c.args.first_picture.now c.args.first_palette.now) (state c.args.second_picture.now c.args.second_palette.now) (sym c.close_ok.ensures ∙ c.if-not-close_ok.false) (sym c.size_fits.ensures ∙ c.if-not-size_fits.false)
     (sym c.holds.ensures ∙ c.if-not-holds.false) (sym c.holds-2.ensures ∙ c.if-not-holds-2.true))
 
