@@ -1,7 +1,6 @@
 -- `measure_colours` meets its contract: nothing is planned for equal palettes, else the chunk whose body was sized, six bytes longer for its header.
 use Rattle.house_frame.proofs.Laws.{colour_same, colour_other}
 use mathlib.Core.Path.{sym, ◌∙◌}
-use borrow.Author.Rules.{rules}
 use Rattle.house_frame.proofs.measure_colours.Goals as goal
 
 pub returns-then-same_bytes : goal.returns-then-same_bytes

@@ -1,6 +1,5 @@
 -- `measure_delta` meets its contract: nothing is planned for equal pictures; else the delta is sized, and the edges of the rows are counted.
 use mathlib.Core.Path.{sym, ◌∙◌}
-use borrow.Author.Rules.{rules}
 use Rattle.house_frame.proofs.Laws.{delta_none, delta_made}
 use Rattle.house_frame.proofs.measure_delta.Goals as goal
 

@@ -1,6 +1,5 @@
 -- `measure_picture` meets its contract: the full chunk is measured, and the test is the definition's.
 use native.Mathlib.Omega.{arith}
-use borrow.Author.Rules.{rules}
 use Rattle.house_frame.proofs.Laws.{shorter_full, shorter_delta}
 use Rattle.house_frame.proofs.measure_picture.Goals as goal
 

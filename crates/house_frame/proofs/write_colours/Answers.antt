@@ -7,7 +7,6 @@ use Rattle.words.specs.Words.{chunk}
 use native.Mathlib.Omega.{arith}
 use mathlib.Core.Path.{sym}
 use mathlib.Core.List.{[]}
-use borrow.Author.Rules.{rules}
 use Rattle.house_frame.proofs.write_colours.Goals as goal
 
 pub returns-then-plan-eq0 : goal.returns-then-plan-eq0

@@ -8,7 +8,6 @@ use Prim.Native.Nat.{ℕ}
 use native.Mathlib.Omega.{arith}
 use mathlib.Core.List.{List}
 use mathlib.Core.Path.{ap, ap₂, ◌∙◌}
-use borrow.Author.Rules.{rules}
 use Rattle.house_rewrite.proofs.rewrite_accepted.Goals as goal
 
 pub walk_frame-requires : goal.walk_frame-requires
@@ -21,19 +20,18 @@ write_house-requires c =
     let p = c.requires in
     let s = p.0.picture in
     let k = c.walk_frame.auto in
-    (p.1, record { picture = record { size = s.size; pixels = k.0 ∙ c.copy.auto.dst ∙ s.pixels }; colours = k.1.0 ∙ c.copy-2.auto.dst ∙ p.0.colours })
+    (p.1, record { picture = record { size = s.size; pixels = k.picture ∙ c.copy.auto.dst ∙ s.pixels }; colours = k.palette ∙ c.copy-2.auto.dst ∙ p.0.colours })
 
 pub returns : goal.returns
 returns c =
     let a = c.args in
     let f = frame a.size a.bytes.now in
     let play = c.walk_frame.ensures in
-    let picture = play.1.0 ∙ ap (applied f.pixels) c.copy.ensures in
-    let palette = play.1.1 ∙ ap (applied f.colours) c.copy-2.ensures in (
-      picture,
-      (
-        palette,
-        c.write_house.ensures
-            ∙ ap₂ (λ (x y : List ℕ). fitted (house_frame a.size (state a.previous-picture.now a.previous-palette.now) (state x y)) a.out.now) picture palette,
-      ),
-    )
+    let picture = play.pixels ∙ ap (applied f.pixels) c.copy.ensures in
+    let palette = play.colours ∙ ap (applied f.colours) c.copy-2.ensures in record {
+      picture = picture;
+      palette = palette;
+      output =
+          c.write_house.ensures
+          ∙ ap₂ (λ (x y : List ℕ). fitted (house_frame a.size (state a.previous_picture.now a.previous_palette.now) (state x y)) a.out.now) picture palette;
+    }
