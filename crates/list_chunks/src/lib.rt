@@ -63,7 +63,7 @@ fn child_count(b: &[u8], at: usize, kind: usize) -> usize
 }
 
 // Lists what is inside the container from offset at to offset end.
-#[cycle(list_children_list_container)]
+#[cycle(listers)]
 fn list_container(
     out: &mut [u8],
     start: usize,
@@ -88,7 +88,7 @@ fn list_container(
 }
 
 // Lists at most count children from offset from to offset to, each with what is inside it.
-#[cycle(list_children_list_container)]
+#[cycle(listers)]
 fn list_children(
     out: &mut [u8],
     start: usize,

@@ -1,7 +1,6 @@
 -- `child_count` meets its contract: the test is the definition's, and the count is the word behind the container's header.
 use borrow.Author.Tests.{eq-eqb, ne_eqb}
 use Rattle.list_chunks.specs.Listing.{count_at}
-use borrow.Author.Rules.{rules}
 use Rattle.list_chunks.proofs.child_count.Goals as goal
 
 pub returns-then-kind-eq-FLI_PSTAMP : goal.returns-then-kind-eq-FLI_PSTAMP

@@ -1,5 +1,5 @@
 -- `is_opened` meets its contract: the kinds are compared in the definition's order.
-use borrow.Author.Tests.{ne_eqb}
+use Rattle.std.proofs.Common.{◌≡◌, false, eqb, arith, ne_eqb}
 use Rattle.list_chunks.specs.Listing.{opens}
 use Rattle.list_chunks.proofs.is_opened.Goals as goal
 
@@ -17,4 +17,9 @@ returns-in-61946 c = rw c.in-61946.is
 
 pub returns-in_default : goal.returns-in_default
 unfolding opens
-returns-in_default c = simp (ne_eqb _ _ c.in_default.rest.0.0.1, ne_eqb _ _ c.in_default.rest.0.1, ne_eqb _ _ c.in_default.rest.1)
+returns-in_default c =
+    let k = c.args.kind in
+    let a : eqb k 18 ≡ false = ne_eqb _ _ (λ e. omega (arith, e)) in
+    let b : eqb k 61696 ≡ false = ne_eqb _ _ (λ e. omega (arith, e)) in
+    let d : eqb k 61946 ≡ false = ne_eqb _ _ (λ e. omega (arith, e)) in
+    simp (a, b, d)

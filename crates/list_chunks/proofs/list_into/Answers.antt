@@ -6,7 +6,6 @@ use native.Mathlib.Omega.{arith}
 use Rattle.list_chunks.proofs.Laws.{list_none, list_whole}
 use Rattle.list_chunks.proofs.Short.{list_most_lem}
 use Rattle.list_text.proofs.Resumes.{stored_whole, stored_front, stored_within}
-use borrow.Author.Rules.{rules}
 use Rattle.list_chunks.proofs.list_into.Goals as goal
 
 pub list_text-n-requires : goal.list_text-n-requires
@@ -20,8 +19,7 @@ slice_bounds-copy-end-2 c = stored_within c.list_text-n.ensures
 
 pub returns : goal.returns
 returns c =
-    let l = c in
-    let a = l.args in
-    let n = l.list_text-n.result in
-    list_whole a.bytes.now a.out.now n (stored_whole l.list_text-n.ensures) c.if-out-n.false (n - 0) (sub-zero n) c.copy.new.dst
-    (c.copy.ensures ∙ stored_front l.list_text-n.ensures (n - 0) (sub-zero n))
+    let a = c.args in
+    let n = c.list_text-n.result in
+    list_whole a.bytes.now a.out.now n (stored_whole c.list_text-n.ensures) c.if-out-n.false (n - 0) (sub-zero n) c.copy.new.dst
+    (c.copy.ensures ∙ stored_front c.list_text-n.ensures (n - 0) (sub-zero n))
