@@ -73,8 +73,7 @@ pub append-requires : goal.append-requires
 append-requires c =
     let p : Passed c.args.reel c.args.bytes.now (state c.args.shown_picture.now c.args.shown_palette.now) (state c.args.next_picture.now c.args.next_palette.now) = record { taken = sym c.add_ok.ensures ∙ c.if-not-add_ok.false; sized = sym c.size_fits.ensures ∙ c.if-not-size_fits.false; shown = sym c.holds.ensures ∙ c.if-not-holds.false; next = sym c.holds-2.ensures ∙ c.if-not-holds-2.false; ended = sym c.end_ok.ensures ∙ c.if-not-end_ok.false } in
     let a = c in
-    let z = a.args.reel.size in
-    (
+    let z = a.args.reel.size in (
       (end_in a.args.reel.end (length a.args.bytes.now) p.ended).1,
       front_exact z (state c.args.shown_picture.now c.args.shown_palette.now) p.sized (area z - 0) (omega arith) p.shown,
       front_exact z (state c.args.next_picture.now c.args.next_palette.now) p.sized (area z - 0) (omega arith) p.next,
