@@ -1,6 +1,9 @@
 // The listing program: document 01, "Reels and the trailer", third paragraph. Its stored run is the example of "Numbers to try".
 #![tactic(auto)]
 
-fn main() {
-    list_io::list_input();
+use std::io;
+
+fn main(rt: HostRuntime) -> io::Result<()> {
+    list_io::list_input(&rt)?;
+    Ok(())
 }

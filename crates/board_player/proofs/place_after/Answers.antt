@@ -1,7 +1,6 @@
 -- `place_after` meets its contract: behind the frame drawn, or behind frame 1 if it was the ring.
 use mathlib.Core.Bool.{Bool, cond}
 use mathlib.Core.Path.{sym, ap, ◌∙◌}
-use borrow.Author.Rules.{rules}
 use Rattle.board_player.proofs.place_after.Goals as goal
 
 pub returns-then-ring_follows : goal.returns-then-ring_follows

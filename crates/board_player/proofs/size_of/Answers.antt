@@ -1,6 +1,5 @@
 -- `size_of` meets its contract: the record's fields, and the format that its number stands for.
 use mathlib.Core.Path.{ap}
-use borrow.Author.Rules.{rules}
 use Rattle.format.specs.Limits.{size_of}
 use Rattle.format.specs.declared.Format.{Format}
 use Rattle.board_player.proofs.size_of.Goals as goal
