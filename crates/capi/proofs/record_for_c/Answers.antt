@@ -1,7 +1,6 @@
 -- `record_for_c` meets its contract: the fields of the reel, closed as 1 or 0, and its format's number.
 use mathlib.Core.Path.{◌≡◌, ap₂, ◌∙◌, sym, ap}
 use mathlib.Core.Bool.{Bool, cond}
-use mathlib.Core.Logic.{⊎_elim}
 use Prim.Native.Nat.{ℕ}
 use borrow.Author.Rules.{rules}
 use Rattle.format.specs.Limits.{format_number}
@@ -9,6 +8,7 @@ use Rattle.reel_build.specs.declared.Reel.{Reel}
 use Rattle.capi.specs.declared.Record.{Record}
 use Rattle.capi.specs.Capi.{record_for}
 use Rattle.capi.proofs.record_for_c.Goals as goal
+use Rattle.capi.proofs.record_for_c.Goals.{then-r, else-r}
 
 abbrev fields : Reel → ℕ → ℕ → Record
 fields r n f = record { width = r.size.width; height = r.size.height; frames = r.frames; end = r.end; closed = n; format = f }
@@ -21,4 +21,7 @@ returns c =
     let r = c.args.r in
     let j = c.if-r in
     let f = c.format_number in
-    ⊎_elim {C = fields r j.closed f.result ≡ record_for r} (λ t. recorded r j.closed f.result _ f.ensures t.0.taken t.1) (λ t. recorded r j.closed f.result _ f.ensures t.0.left t.1) j.branch
+    elim j.branch [
+      | then-r t ↦ recorded r j.closed f.result _ f.ensures t.if-r.true t.closed-is
+      | else-r t ↦ recorded r j.closed f.result _ f.ensures t.if-r.false t.closed-is
+    ]
