@@ -1,7 +1,6 @@
 -- `number_of` meets its contract: each arm returns the number that `number` gives its case.
 use mathlib.Core.Path.{ap, sym}
 use Rattle.answer.specs.Answer.{number}
-use borrow.Author.Rules.{rules}
 use Rattle.answer.proofs.number_of.Goals as goal
 
 pub returns-in-ShortSlice : goal.returns-in-ShortSlice

@@ -1,10 +1,7 @@
 -- `frame_at` meets its contract: frame k from the start is the frame that is left to reach from here.
-use mathlib.Core.Path.{◌≡◌, ◌∙◌, sym}
+use mathlib.Core.Path.{◌≡◌}
 use Prim.Native.Nat.{◌≤◌}
-use native.Mathlib.Omega.{arith}
 use Rattle.chunks.specs.Spans.{frame_at}
-use Rattle.chunks.proofs.Spans.{frame_at_one, frame_at_fault, frame_at_more}
-use borrow.Author.Rules.{rules}
 use Rattle.chunks.proofs.frame_at.Given as goal
 
 abbrev pub invariant-loop-left : goal.invariant-loop-left

@@ -2,7 +2,6 @@
 use Rattle.chunks.proofs.Headers.{frame_cut, frame_type, frame_small, frame_large, frame_whole}
 use native.Mathlib.Omega.{arith}
 use mathlib.Core.Path.{◌∙◌}
-use borrow.Author.Rules.{rules}
 use Rattle.chunks.proofs.frame_header.Goals as goal
 
 pub returns-then-b-lt-FRAME_HEADER : goal.returns-then-b-lt-FRAME_HEADER

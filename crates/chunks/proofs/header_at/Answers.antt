@@ -1,7 +1,6 @@
 -- `header_at` meets its contract: each return is the case of the definition that its tests select.
 use Rattle.chunks.proofs.Headers.{header_cut, header_small, header_large, header_whole}
 use native.Mathlib.Omega.{arith}
-use borrow.Author.Rules.{rules}
 use Rattle.chunks.proofs.header_at.Goals as goal
 
 pub returns-then-b-at-lt-CHUNK_HEADER : goal.returns-then-b-at-lt-CHUNK_HEADER

@@ -1,13 +1,8 @@
 -- `next_at` meets its contract: the next frame from the start is the next frame from here, whatever was stepped over.
-use mathlib.Core.Path.{◌≡◌, ◌∙◌, sym}
-use Prim.Native.Nat.{◌-◌, ◌≤◌}
+use mathlib.Core.Path.{◌∙◌, sym}
 use native.Mathlib.Omega.{arith}
-use lib.ListN.{length}
-use Rattle.chunks.specs.Spans.{next_at}
-use Rattle.chunks.specs.declared.Layout.TheVariants.{Loose}
 use Rattle.chunks.proofs.Headers.{header_in_lem}
 use Rattle.chunks.proofs.Spans.{next_none, next_frame, next_over}
-use borrow.Author.Rules.{rules}
 use Rattle.chunks.proofs.next_at.Goals as goal
 
 pub returns-then-start-b : goal.returns-then-start-b

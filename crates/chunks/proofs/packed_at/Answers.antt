@@ -6,7 +6,6 @@ use native.Mathlib.Omega.{arith}
 use lib.ListN.{length-drop, length-take, drop}
 use Rattle.chunks.proofs.Headers.{frame_in}
 use Rattle.chunks.proofs.Spans.{next_packed}
-use borrow.Author.Rules.{rules}
 use Rattle.chunks.proofs.packed_at.Goals as goal
 
 pub overflow_add-result : goal.overflow_add-result

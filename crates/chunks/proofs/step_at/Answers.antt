@@ -2,7 +2,6 @@
 use mathlib.Core.Path.{ap, ◌∙◌, sym}
 use Rattle.chunks.specs.Spans.{next_at}
 use Rattle.chunks.specs.declared.Layout.{Layout}
-use borrow.Author.Rules.{rules}
 use Rattle.chunks.proofs.step_at.Goals as goal
 
 pub returns-in-Loose : goal.returns-in-Loose

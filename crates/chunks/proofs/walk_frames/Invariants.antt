@@ -1,8 +1,6 @@
 -- `walk_frames` meets its contract. The invariant: the walk over all frames goes as far as the walk over the frames left does, from where the last one ended.
-use mathlib.Core.Path.{◌≡◌, ◌∙◌, sym}
+use mathlib.Core.Path.{◌≡◌}
 use Rattle.chunks.specs.Spans.{extent}
-use Rattle.chunks.proofs.Spans.{extent_none, extent_fault, extent_more}
-use borrow.Author.Rules.{rules}
 use Rattle.chunks.proofs.walk_frames.Given as goal
 
 abbrev pub invariant-loop-left : goal.invariant-loop-left

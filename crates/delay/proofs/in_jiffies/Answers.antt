@@ -1,5 +1,4 @@
 -- `in_jiffies` meets its contract: the test decides whether two bytes hold the delay.
-use borrow.Author.Rules.{rules}
 use borrow.Author.Tests.{le-leb, lt-leb}
 use Rattle.delay.proofs.in_jiffies.Goals as goal
 

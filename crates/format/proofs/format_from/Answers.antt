@@ -1,5 +1,4 @@
 -- `format_from` meets its contract: a number that isn't 0 is that of an FLI.
-use borrow.Author.Rules.{rules}
 use Rattle.format.proofs.Laws.{from_some}
 use Rattle.format.proofs.format_from.Goals as goal
 

@@ -2,7 +2,6 @@
 use mathlib.Core.Path.{refl}
 use Rattle.format.specs.Format.{raised}
 use native.Mathlib.Omega.{arith}
-use borrow.Author.Rules.{rules}
 use Rattle.format.proofs.raised_level.Goals as goal
 
 pub overflow_add-result : goal.overflow_add-result

@@ -1,6 +1,5 @@
 -- `size_fits` meets its contract: at each format the definition computes to its test.
 use mathlib.Core.Path.{◌∙◌, sym, ap}
-use borrow.Author.Rules.{rules}
 use borrow.Author.Tests.{ne_eqb, eq-eqb}
 use Rattle.format.specs.Limits.{size_in}
 use Rattle.format.specs.declared.Format.{Format}

@@ -1,7 +1,6 @@
 -- `packet_at` meets its contract: each return is the case of the definition that its tests select, of a copy and of a repeat.
 use mathlib.Core.Path.{sym}
 use native.Mathlib.Omega.{arith}
-use borrow.Author.Rules.{rules}
 use lib.ListN.{get_or}
 use Rattle.words.proofs.Laws.{magnitude_plus, magnitude_minus}
 use Rattle.read_brun.proofs.Laws.{data_repeat, data_copy, packet_cut, packet_zero, packet_past, packet_short, packet_told}

@@ -2,7 +2,6 @@
 use Rattle.read_brun.specs.Brun.{pixels}
 use Rattle.walk.proofs.Laws.{stored_wet}
 use mathlib.Core.Path.{◌∙◌}
-use borrow.Author.Rules.{rules}
 use Rattle.read_brun.proofs.put_packet.Goals as goal
 
 pub put_pixels-requires : goal.put_pixels-requires

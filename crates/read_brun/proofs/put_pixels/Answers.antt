@@ -6,7 +6,6 @@ use lib.ListN.{take, drop, get_or, replicate}
 use native.Mathlib.Omega.{arith}
 use Prim.Native.Nat.{ℕ, ◌+◌, ◌-◌}
 use mathlib.Core.Path.{◌≡◌, ap, ◌∙◌, sym}
-use borrow.Author.Rules.{rules}
 use Rattle.read_brun.proofs.put_pixels.Goals as goal
 
 pub overflow_add-stop : goal.overflow_add-stop

@@ -1,13 +1,11 @@
 -- `walk_brun` meets its contract. The invariant: the rows left, from this row on the picture as it is, give what the body gives on the picture as found.
 use Rattle.read_brun.proofs.Laws.{shown, shown_none, brun_seen, row_sound, rows_none, rows_on, rows_stopped}
-use Rattle.read_brun.specs.Brun.{rows, brun}
-use Rattle.walk.proofs.Laws.{VerdictIn, seen, seen_gives}
+use Rattle.read_brun.specs.Brun.{rows}
+use Rattle.walk.proofs.Laws.{VerdictIn, seen_gives}
 use Rattle.words.proofs.Laws.{row_in}
-use lib.ListN.{length}
 use native.Mathlib.Omega.{arith}
-use Prim.Native.Nat.{ℕ, ◌≤◌, ◌-◌, ◌*◌}
+use Prim.Native.Nat.{ℕ, ◌-◌, ◌*◌}
 use mathlib.Core.Path.{◌≡◌, ap₂, ◌∙◌, sym, refl, subst}
-use borrow.Author.Rules.{rules}
 use Rattle.read_brun.proofs.walk_brun.Goals as goal
 
 pub loop-row-init : goal.loop-row-init

@@ -1,13 +1,10 @@
 -- `walk_brun` meets its contract. The invariant: the rows left, from this row on the picture as it is, give what the body gives on the picture as found.
-use Rattle.read_brun.proofs.Laws.{shown, shown_none, brun_seen, row_sound, rows_none, rows_on, rows_stopped}
+use Rattle.read_brun.proofs.Laws.{shown}
 use Rattle.read_brun.specs.Brun.{rows, brun}
-use Rattle.walk.proofs.Laws.{VerdictIn, seen, seen_gives}
-use Rattle.words.proofs.Laws.{row_in}
+use Rattle.walk.proofs.Laws.{seen}
 use lib.ListN.{length}
-use native.Mathlib.Omega.{arith}
-use Prim.Native.Nat.{ℕ, ◌≤◌, ◌-◌, ◌*◌}
-use mathlib.Core.Path.{◌≡◌, ap₂, ◌∙◌, sym, refl, subst}
-use borrow.Author.Rules.{rules}
+use Prim.Native.Nat.{◌≤◌, ◌-◌, ◌*◌}
+use mathlib.Core.Path.{◌≡◌}
 use Rattle.read_brun.proofs.walk_brun.Given as goal
 
 abbrev pub invariant-loop-row : goal.invariant-loop-row

@@ -1,12 +1,8 @@
 -- `walk_row` meets its contract. The invariant: the packets left, from here on the picture as it is, give what the row gives from its place on the picture as found.
-use Rattle.read_brun.proofs.Laws.{PacketIn, packet_in, row_cut, row_open, packets_stop, packets_none, packets_on, shown, shown_gives, shown_none}
-use Rattle.read_brun.specs.declared.BrunStep.TheVariants.{Pixels}
-use Rattle.read_brun.specs.Brun.{Run, packets, row}
-use lib.ListN.{length}
+use Rattle.read_brun.proofs.Laws.{packet_in, row_cut, row_open, packets_stop, packets_none, packets_on, shown, shown_gives, shown_none}
+use Rattle.read_brun.specs.Brun.{Run}
 use native.Mathlib.Omega.{arith}
-use Prim.Native.Nat.{◌≤◌, ◌+◌}
-use mathlib.Core.Path.{◌≡◌, ap, ◌∙◌, sym, refl}
-use borrow.Author.Rules.{rules}
+use mathlib.Core.Path.{ap, ◌∙◌, sym, refl}
 use Rattle.read_brun.proofs.walk_row.Goals as goal
 
 pub returns-then-body-from-lt1 : goal.returns-then-body-from-lt1

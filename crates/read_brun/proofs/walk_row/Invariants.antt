@@ -1,12 +1,9 @@
 -- `walk_row` meets its contract. The invariant: the packets left, from here on the picture as it is, give what the row gives from its place on the picture as found.
-use Rattle.read_brun.proofs.Laws.{PacketIn, packet_in, row_cut, row_open, packets_stop, packets_none, packets_on, shown, shown_gives, shown_none}
-use Rattle.read_brun.specs.declared.BrunStep.TheVariants.{Pixels}
-use Rattle.read_brun.specs.Brun.{Run, packets, row}
+use Rattle.read_brun.proofs.Laws.{shown}
+use Rattle.read_brun.specs.Brun.{packets, row}
 use lib.ListN.{length}
-use native.Mathlib.Omega.{arith}
 use Prim.Native.Nat.{◌≤◌, ◌+◌}
-use mathlib.Core.Path.{◌≡◌, ap, ◌∙◌, sym, refl}
-use borrow.Author.Rules.{rules}
+use mathlib.Core.Path.{◌≡◌}
 use Rattle.read_brun.proofs.walk_row.Given as goal
 
 abbrev pub invariant-loop-left : goal.invariant-loop-left

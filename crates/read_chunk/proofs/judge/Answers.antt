@@ -3,7 +3,6 @@ use Rattle.read_chunk.proofs.Laws.{judged_spare, judged_right}
 use Rattle.read_chunk.specs.Chunk.{judged}
 use native.Mathlib.Omega.{arith}
 use mathlib.Core.Path.{sym, ap, ◌∙◌}
-use borrow.Author.Rules.{rules}
 use Rattle.read_chunk.proofs.judge.Goals as goal
 
 pub returns-then-end-size-2 : goal.returns-then-end-size-2

@@ -1,5 +1,4 @@
 -- `kind_ok` meets its contract: at each format the definition computes to its test.
-use borrow.Author.Rules.{rules}
 use borrow.Author.Tests.{ne_eqb, eq-eqb}
 use Rattle.read_chunk.proofs.kind_ok.Goals as goal
 

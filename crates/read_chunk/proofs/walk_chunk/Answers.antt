@@ -1,8 +1,6 @@
 -- A kind that has no place in the format is a fault before its body is looked at; any other's body is walked over by its kind.
 use mathlib.Core.Path.{ap, sym, ◌∙◌}
 use mathlib.Core.Bool.{true, false}
-use borrow.Author.Tests.{not-true, not-false}
-use borrow.Author.Rules.{rules}
 use Rattle.walk.specs.Walk.{wrote}
 use Rattle.read_chunk.specs.Chunk.{ChunkWalk}
 use Rattle.read_chunk.proofs.Laws.{chunk_by, no_write}

@@ -1,7 +1,6 @@
 -- At each kind the definition computes to that kind's walk, on the picture or on the palette; the other is left as it was.
 use mathlib.Core.Path.{ap, ◌∙◌}
 use Prim.Native.Nat.{◌*◌}
-use borrow.Author.Rules.{rules}
 use native.Mathlib.Omega.{arith}
 use lib.ListN.{length}
 use Rattle.read_colour.specs.Colour.{colour}

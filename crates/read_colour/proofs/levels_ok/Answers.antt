@@ -3,7 +3,6 @@ use mathlib.Core.Path.{◌∙◌, sym, ap}
 use Rattle.read_colour.specs.Colour.{levels_ok}
 use Rattle.read_colour.specs.declared.Levels.{Levels}
 use Rattle.read_colour.proofs.Laws.{levels_64, levels_256}
-use borrow.Author.Rules.{rules}
 use Rattle.read_colour.proofs.levels_ok.Goals as goal
 
 pub returns-in-Of64 : goal.returns-in-Of64

@@ -1,10 +1,6 @@
 -- `low_levels` meets its contract. The invariant: all components are in range if those from i on are.
-use borrow.Author.Rules.{rules}
-use mathlib.Core.Path.{◌≡◌, ◌∙◌, sym}
-use Prim.Native.Nat.{◌≤◌, ◌-◌}
+use mathlib.Core.Path.{◌∙◌, sym}
 use native.Mathlib.Omega.{arith}
-use lib.ListN.{length, drop}
-use Rattle.read_colour.specs.Colour.{low_levels}
 use Rattle.read_colour.proofs.Laws.{levels_high, levels_low, levels_none}
 use Rattle.read_colour.proofs.low_levels.Goals as goal
 

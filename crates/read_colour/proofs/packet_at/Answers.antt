@@ -1,12 +1,11 @@
 -- `packet_at` meets its contract: its two bytes give the packet, and each return is the case that its tests select.
-use mathlib.Core.Path.{◌≡◌, ap, ◌∙◌, sym}
-use Prim.Native.Nat.{ℕ, ◌-◌, ◌+◌, ◌*◌}
+use mathlib.Core.Path.{ap, ◌∙◌, sym}
+use Prim.Native.Nat.{ℕ, ◌+◌, ◌*◌}
 use native.Mathlib.Omega.{arith}
 use native.Mathlib.Nat.{add-sub_cancel_left}
 use lib.ListN.{drop, take}
-use Rattle.read_colour.specs.Colour.{levels_ok, count_of, packet_of, packet_at}
+use Rattle.read_colour.specs.Colour.{levels_ok, count_of}
 use Rattle.read_colour.proofs.Laws.{packet_at_lem, packet_cut, packet_past, packet_short, packet_level, packet_whole}
-use borrow.Author.Rules.{rules}
 use Rattle.read_colour.proofs.packet_at.Goals as goal
 
 pub returns-then-body-at-lt2 : goal.returns-then-body-at-lt2

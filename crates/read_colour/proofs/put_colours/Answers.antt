@@ -11,7 +11,6 @@ use Rattle.walk.specs.Walk.{stored}
 use Rattle.walk.specs.declared.Pass.{Pass}
 use Rattle.walk.proofs.Laws.{stored_wet}
 use Rattle.read_colour.specs.Colour.{level, levels_ok}
-use borrow.Author.Rules.{rules}
 use Rattle.read_colour.proofs.put_colours.Goals as goal
 
 pub overflow_add-to : goal.overflow_add-to

@@ -2,12 +2,11 @@
 use Rattle.words.proofs.Runs.{map_more, mapped_all}
 use Rattle.read_colour.proofs.Laws.{level_small}
 use Rattle.format.specs.Format.{raised}
-use lib.ListN.{length, drop, take, set, length-set}
+use lib.ListN.{set, length-set}
 use native.Mathlib.Omega.{arith}
-use Prim.Native.Nat.{ℕ, ◌≤◌, ◌-◌}
-use mathlib.Core.List.{List, ◌++◌, map}
-use mathlib.Core.Path.{◌≡◌, ap₂, ◌∙◌}
-use borrow.Author.Rules.{rules}
+use Prim.Native.Nat.{ℕ}
+use mathlib.Core.List.{List}
+use mathlib.Core.Path.{ap₂, ◌∙◌}
 use Rattle.read_colour.proofs.put_raised.Goals as goal
 
 pub raised_level-requires : goal.raised_level-requires

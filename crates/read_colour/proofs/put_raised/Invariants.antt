@@ -1,13 +1,9 @@
 -- `put_raised` meets its contract. The invariant: the first i components are raised, the rest as found.
-use Rattle.words.proofs.Runs.{map_more, mapped_all}
-use Rattle.read_colour.proofs.Laws.{level_small}
 use Rattle.format.specs.Format.{raised}
-use lib.ListN.{length, drop, take, set, length-set}
-use native.Mathlib.Omega.{arith}
-use Prim.Native.Nat.{ℕ, ◌≤◌, ◌-◌}
-use mathlib.Core.List.{List, ◌++◌, map}
-use mathlib.Core.Path.{◌≡◌, ap₂, ◌∙◌}
-use borrow.Author.Rules.{rules}
+use lib.ListN.{length, drop, take}
+use Prim.Native.Nat.{◌≤◌, ◌-◌}
+use mathlib.Core.List.{◌++◌, map}
+use mathlib.Core.Path.{◌≡◌}
 use Rattle.read_colour.proofs.put_raised.Given as goal
 
 abbrev pub invariant-loop-i : goal.invariant-loop-i

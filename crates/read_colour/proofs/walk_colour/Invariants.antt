@@ -1,14 +1,9 @@
 -- `walk_colour` meets its contract. The invariant: the packets left, on the palette as it is, come out as the body does on the palette as found.
-use Rattle.read_colour.proofs.Laws.{PacketIn, packet_in, packets_stop, packets_none, packets_on, colours_open, colours_cut}
-use Rattle.read_colour.specs.declared.ColourStep.TheVariants.{Colours}
 use Rattle.read_colour.specs.Colour.{packets, colour}
-use Rattle.walk.proofs.Laws.{seen, seen_gives, seen_none}
-use Rattle.walk.specs.Walk.{Walk}
+use Rattle.walk.proofs.Laws.{seen}
 use lib.ListN.{length}
-use native.Mathlib.Omega.{arith}
 use Prim.Native.Nat.{◌≤◌}
-use mathlib.Core.Path.{◌≡◌, ap, ◌∙◌, sym, refl}
-use borrow.Author.Rules.{rules}
+use mathlib.Core.Path.{◌≡◌}
 use Rattle.read_colour.proofs.walk_colour.Given as goal
 
 abbrev pub invariant-loop-left : goal.invariant-loop-left

@@ -1,5 +1,4 @@
 -- A dry pass needs no room.
-use borrow.Author.Rules.{rules}
 use Rattle.walk.specs.declared.Pass.TheVariants.{Dry, Wet}
 use native.Mathlib.Omega.{arith}
 use mathlib.Core.Path.{◌≡◌}

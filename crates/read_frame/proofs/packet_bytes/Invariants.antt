@@ -1,13 +1,9 @@
 -- The invariant: what was added up and what is left are all. Chunks lie one behind the other, so that the sum is no more than the offset.
-use mathlib.Core.Path.{◌≡◌, ◌∙◌, sym}
+use mathlib.Core.Path.{◌≡◌}
 use Prim.Native.Nat.{◌≤◌, ◌+◌}
-use native.Mathlib.Omega.{arith}
-use borrow.Author.Rules.{rules}
 use lib.ListN.{length}
 use Rattle.chunks.specs.Spans.{sub_spans}
-use Rattle.chunks.proofs.Headers.{header_in_lem}
 use Rattle.read_frame.specs.Packets.{packet_bytes}
-use Rattle.read_frame.proofs.Laws.{packets_none, packets_fault, packets_more}
 use Rattle.read_frame.proofs.packet_bytes.Given as goal
 
 abbrev pub invariant-loop-left : goal.invariant-loop-left

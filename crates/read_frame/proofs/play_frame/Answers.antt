@@ -1,6 +1,5 @@
 -- Both branches play the sub-chunks alike; how many bytes are in packets decides which is taken, and nothing else.
 use mathlib.Core.Path.{ap, refl, ◌∙◌, sym}
-use borrow.Author.Rules.{rules}
 use Rattle.chunks.proofs.Headers.{frame_in}
 use Rattle.state.specs.State.{state}
 use Rattle.read_frame.specs.Frame.{FrameWalk}

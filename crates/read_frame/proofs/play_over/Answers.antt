@@ -1,6 +1,5 @@
 -- The second pair holds what was found: what is put back after a refusal.
 use mathlib.Core.Path.{ap₂, ◌∙◌, sym}
-use borrow.Author.Rules.{rules}
 use Rattle.state.specs.State.{state}
 use Rattle.read_frame.proofs.play_over.Goals as goal
 

@@ -1,7 +1,6 @@
 -- A refused dry pass has changed nothing; after one that is done the wet one is done too, over the state as it was found.
 use mathlib.Core.Path.{ap, ap₂, ◌∙◌, sym}
 use native.Mathlib.Omega.{arith}
-use borrow.Author.Rules.{rules}
 use Rattle.words.specs.Writes.{applied}
 use Rattle.state.specs.State.{state}
 use Rattle.read_frame.specs.Frame.{sub_chunks}

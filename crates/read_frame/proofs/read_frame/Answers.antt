@@ -1,16 +1,11 @@
 -- `read_frame` meets its contract: the checks stand in the paper's order, and playing begins only where all of them held.
-use mathlib.Core.Bool.{true}
-use mathlib.Core.Path.{◌≡◌, refl, ap, ◌∙◌, sym}
-use Prim.Native.Nat.{◌≤◌}
+use mathlib.Core.Path.{refl, ap, ◌∙◌, sym}
 use native.Mathlib.Omega.{arith}
-use borrow.Author.Rules.{rules}
-use borrow.Author.Tests.{not-true, not-false}
-use lib.ListN.{length}
 use lib.Seq.{length-take-le}
-use Rattle.format.specs.Limits.{area, size_fits}
+use Rattle.format.specs.Limits.{area}
 use Rattle.format.proofs.Laws.{size_in_lem}
 use Rattle.answer.specs.Answer.{told}
-use Rattle.state.specs.State.{State, state, enough, refilled}
+use Rattle.state.specs.State.{State, state, refilled}
 use Rattle.state.specs.Outcome.{lent_pair, leaves}
 use Rattle.state.proofs.Laws.{enough_in, front_exact}
 use Rattle.read_frame.specs.Frame.{frame}

@@ -1,13 +1,9 @@
 -- The invariant: the sub-chunks that are left, on the state as it is now, give what all of them give on the state as it was found.
-use mathlib.Core.Path.{◌≡◌, ap₂, ◌∙◌, sym, refl}
-use Prim.Native.Nat.{◌≤◌}
+use mathlib.Core.Path.{ap₂, ◌∙◌, sym, refl}
 use native.Mathlib.Omega.{arith}
-use borrow.Author.Rules.{rules}
-use lib.ListN.{length}
 use Rattle.chunks.proofs.Headers.{header_in_lem}
 use Rattle.state.specs.State.{state}
-use Rattle.read_frame.specs.Frame.{sub_chunks}
-use Rattle.read_frame.proofs.Laws.{seen, seen_gives, seen_none, seen_fault, seen_good, seen_bad}
+use Rattle.read_frame.proofs.Laws.{seen_gives, seen_none, seen_fault, seen_good, seen_bad}
 use Rattle.read_frame.proofs.walk_chunks.Goals as goal
 
 pub loop-left-init : goal.loop-left-init

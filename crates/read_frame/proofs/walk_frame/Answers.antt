@@ -1,6 +1,5 @@
 -- A frame is its header, and then its sub-chunks.
 use mathlib.Core.Path.{ap, ◌∙◌, sym}
-use borrow.Author.Rules.{rules}
 use Rattle.chunks.proofs.Headers.{frame_in}
 use Rattle.walk.specs.Walk.{wrote}
 use Rattle.walk.proofs.Laws.{wrote_none}

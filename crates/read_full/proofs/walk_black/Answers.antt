@@ -5,7 +5,6 @@ use lib.ListN.{replicate, length-replicate}
 use native.Mathlib.Omega.{arith}
 use Rattle.words.proofs.Laws.{span_length}
 use Rattle.read_full.proofs.Laws.{black_whole, front_dry, front_wet}
-use borrow.Author.Rules.{rules}
 use Rattle.read_full.proofs.walk_black.Goals as goal
 
 pub slice_bounds-fill-end : goal.slice_bounds-fill-end

@@ -6,7 +6,6 @@ use lib.Seq.{length-take-le}
 use native.Mathlib.Omega.{arith}
 use Rattle.walk.proofs.Laws.{seen_gives, seen_none}
 use Rattle.read_full.proofs.Laws.{copied_whole, copied_short, front_dry, front_wet}
-use borrow.Author.Rules.{rules}
 use Rattle.read_full.proofs.walk_copy.Goals as goal
 
 pub returns-then-body-n : goal.returns-then-body-n

@@ -4,7 +4,6 @@ use Rattle.read_lc.specs.declared.Start.TheVariants.{Row}
 use native.Mathlib.Omega.{arith}
 use Prim.Native.Nat.{ℕ, ◌+◌}
 use mathlib.Core.Path.{ap, sym, ◌∙◌}
-use borrow.Author.Rules.{rules}
 use Rattle.read_lc.proofs.start_at.Goals as goal
 
 pub returns-then-body-at-lt1 : goal.returns-then-body-at-lt1

@@ -1,14 +1,9 @@
 -- The invariant: the rows that are left, on the picture as it is now, give what the body gives on the picture as it was; they lie above the height. The measure is their count.
-use Rattle.read_lc.proofs.Laws.{lc_cut, lc_past, lc_open, rows_none, rows_on, rows_stopped, row_sound}
 use Rattle.read_lc.specs.Lc.{rows, lc}
-use Rattle.walk.proofs.Laws.{VerdictIn, seen, seen_gives, seen_none}
-use Rattle.walk.specs.Walk.{Walk}
-use Rattle.words.proofs.Laws.{row_in}
+use Rattle.walk.proofs.Laws.{seen}
 use lib.ListN.{length}
-use native.Mathlib.Omega.{arith}
 use Prim.Native.Nat.{◌≤◌, ◌+◌}
-use mathlib.Core.Path.{◌≡◌, ap, ◌∙◌, sym, refl, subst}
-use borrow.Author.Rules.{rules}
+use mathlib.Core.Path.{◌≡◌}
 use Rattle.read_lc.proofs.walk_lc.Given as goal
 
 abbrev pub invariant-loop-left : goal.invariant-loop-left

@@ -5,7 +5,6 @@ use Rattle.walk.proofs.Laws.{seen_gives, seen_none}
 use Rattle.walk.specs.Walk.{Walk, wrote}
 use native.Mathlib.Omega.{arith}
 use mathlib.Core.Path.{ap, ◌∙◌, sym}
-use borrow.Author.Rules.{rules}
 use Rattle.read_lc.proofs.walk_row.Goals as goal
 
 pub returns-then-count-eq0 : goal.returns-then-count-eq0

@@ -1,13 +1,9 @@
 -- The invariant: the packets that are left, from here on, come out as the whole row does. A packet of one pair is one of type 1. The measure is their count.
-use mathlib.Core.Path.{◌≡◌, ap, ◌∙◌, sym, refl}
-use Prim.Native.Nat.{ℕ, ◌≤◌, ◌+◌, ◌-◌}
-use native.Mathlib.Omega.{arith}
-use borrow.Author.Rules.{rules}
+use mathlib.Core.Path.{◌≡◌}
+use Prim.Native.Nat.{◌≤◌}
 use lib.ListN.{length}
 use Rattle.format.specs.Limits.{Wide}
-use Rattle.walk.specs.Walk.{Walk}
 use Rattle.read_packets.specs.Packets.{packets}
-use Rattle.read_packets.proofs.Laws.{pair_in, pair_whole, packet_in, packets_stop, packets_more, packets_none}
 use Rattle.read_packets.proofs.check_packets.Given as goal
 
 abbrev pub invariant-loop-left : goal.invariant-loop-left

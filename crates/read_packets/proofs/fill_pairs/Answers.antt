@@ -1,10 +1,9 @@
 -- The invariant: the first i pairs are set. The measure is the count of pairs left.
 use mathlib.Core.Path.{◌≡◌, ap, ◌∙◌, sym, refl}
 use mathlib.Core.List.{[], ◌∷◌}
-use Prim.Native.Nat.{ℕ, ◌≤◌, ◌-◌, ◌*◌}
+use Prim.Native.Nat.{ℕ, ◌*◌}
 use native.Mathlib.Omega.{arith}
-use borrow.Author.Rules.{rules}
-use lib.ListN.{length, take, length-set}
+use lib.ListN.{length-set}
 use lib.Seq.{take_all}
 use Rattle.read_packets.specs.Packets.{repeated}
 use Rattle.read_packets.proofs.Laws.{repeated_pair}

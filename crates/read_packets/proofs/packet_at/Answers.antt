@@ -2,7 +2,6 @@
 use mathlib.Core.Path.{sym}
 use Prim.Native.Nat.{◌+◌, ◌-◌}
 use native.Mathlib.Omega.{arith}
-use borrow.Author.Rules.{rules}
 use lib.ListN.{get_or}
 use Rattle.read_packets.proofs.Laws.{units_small, data_repeat, copied_pixels, copied_bytes, repeated_pixels, packet_cut, packet_past, packet_short, packet_whole}
 use Rattle.read_packets.proofs.packet_at.Goals as goal

@@ -2,8 +2,6 @@
 use mathlib.Core.Path.{ap, ◌∙◌, sym}
 use Prim.Native.Nat.{ℕ, ◌+◌}
 use native.Mathlib.Omega.{arith}
-use borrow.Author.Rules.{rules}
-use borrow.Author.Tests.{not-true, not-false}
 use lib.Dec.{leb}
 use Rattle.read_packets.proofs.Laws.{pair_cut, pair_other, pair_by_width}
 use Rattle.read_packets.proofs.pair_at.Goals as goal

@@ -1,18 +1,14 @@
 -- The invariant: the packets that are left, from here on, on the picture as it is now, give what the whole row gives on the picture as it was. A packet of one pair is one of type 1. The measure is their count.
 use mathlib.Core.List.{List}
-use mathlib.Core.Path.{◌≡◌, ap, ap₂, ◌∙◌, sym, refl}
-use Prim.Native.Nat.{ℕ, ◌≤◌, ◌+◌, ◌-◌, ◌*◌}
+use mathlib.Core.Path.{ap, ap₂, ◌∙◌, sym, refl}
+use Prim.Native.Nat.{ℕ, ◌+◌, ◌-◌, ◌*◌}
 use native.Mathlib.Nat.{mul-le-mul}
 use native.Mathlib.Omega.{arith}
-use borrow.Author.Rules.{rules}
-use lib.ListN.{length}
-use Rattle.format.specs.Limits.{Wide}
 use Rattle.walk.specs.Walk.{stored}
 use Rattle.walk.specs.declared.Pass.TheVariants.{Wet}
 use Rattle.walk.proofs.Laws.{seen, seen_gives, seen_none}
-use Rattle.read_packets.specs.declared.PacketStep.TheVariants.{Pixels}
-use Rattle.read_packets.specs.Packets.{packet_at, packets}
-use Rattle.read_packets.proofs.Laws.{PairIn, pair_in, pair_whole, pair_pixels, packet_in, packets_stop, packets_on, packets_none}
+use Rattle.read_packets.specs.Packets.{packets}
+use Rattle.read_packets.proofs.Laws.{pair_in, pair_whole, pair_pixels, packet_in, packets_stop, packets_on, packets_none}
 use Rattle.read_packets.proofs.put_packets.Goals as goal
 
 pub overflow_mul-place : goal.overflow_mul-place

@@ -1,7 +1,6 @@
 -- The two bytes are stored one after the other.
 use mathlib.Core.Path.{ap, ◌∙◌, sym}
 use native.Mathlib.Omega.{arith}
-use borrow.Author.Rules.{rules}
 use lib.ListN.{length-set}
 use Rattle.words.proofs.Laws.{put_two}
 use Rattle.words.specs.Writes.{put}

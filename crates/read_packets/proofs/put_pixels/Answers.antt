@@ -2,7 +2,6 @@
 use mathlib.Core.Path.{◌≡◌, ap, ◌∙◌, sym}
 use Prim.Native.Nat.{ℕ, ◌+◌, ◌-◌, ◌*◌}
 use native.Mathlib.Omega.{arith}
-use borrow.Author.Rules.{rules}
 use lib.ListN.{take, drop}
 use Rattle.words.proofs.Laws.{span_length, span_back}
 use Rattle.read_packets.proofs.Laws.{units_small, data_repeat, copied_pixels, copied_bytes, repeated_pixels, pixels_copy, pixels_repeat, length_pixels}

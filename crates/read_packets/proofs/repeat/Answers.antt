@@ -2,7 +2,6 @@
 use mathlib.Core.Path.{◌≡◌, ap, ◌∙◌}
 use Prim.Native.Nat.{ℕ, ◌*◌}
 use native.Mathlib.Omega.{arith}
-use borrow.Author.Rules.{rules}
 use lib.ListN.{length, get_or, replicate}
 use Rattle.read_packets.proofs.Laws.{repeated_pixel, repeated_double}
 use Rattle.read_packets.proofs.repeat.Goals as goal

@@ -1,6 +1,5 @@
 -- A dry pass is the check, in which the row doesn't matter; a wet one does the writes.
 use mathlib.Core.Path.{ap, ◌∙◌, sym}
-use borrow.Author.Rules.{rules}
 use Rattle.walk.specs.Walk.{wrote}
 use Rattle.walk.specs.declared.Pass.{Pass}
 use Rattle.read_packets.specs.Packets.{packets}

@@ -1,7 +1,6 @@
 -- The code's test and match are the definition's: each return cites the law of its case.
 use mathlib.Core.Path.{◌∙◌, sym}
 use native.Mathlib.Omega.{arith}
-use borrow.Author.Rules.{rules}
 use Rattle.read_ss2.proofs.Laws.{last_cut, last_there}
 use Rattle.read_ss2.proofs.last_at.Goals as goal
 

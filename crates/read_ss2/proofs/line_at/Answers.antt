@@ -2,7 +2,6 @@
 use mathlib.Core.Path.{◌∙◌, sym}
 use native.Mathlib.Omega.{arith}
 use borrow.Author.Tests.{lt-ltb, le-ltb}
-use borrow.Author.Rules.{rules}
 use Rattle.read_ss2.proofs.Laws.{word_skip, line_cut, line_there}
 use Rattle.read_ss2.proofs.line_at.Goals as goal
 

@@ -4,7 +4,6 @@ use mathlib.Core.List.{[], ◌∷◌}
 use Prim.Native.Nat.{◌+◌, ◌-◌, ◌*◌}
 use native.Mathlib.Omega.{arith}
 use native.Mathlib.Nat.{mul-le-mul}
-use borrow.Author.Rules.{rules}
 use Rattle.words.proofs.Laws.{put_one}
 use Rattle.walk.proofs.Laws.{stored_wet, wrote_none, wrote_one}
 use Rattle.walk.specs.Walk.{ends, wrote}

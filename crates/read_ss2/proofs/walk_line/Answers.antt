@@ -1,7 +1,6 @@
 -- The picture with its last pixel set, or kept, is the one on which the packets act, and it is as long as it was.
 use mathlib.Core.Path.{ap, ◌∙◌, sym}
 use native.Mathlib.Omega.{arith}
-use borrow.Author.Rules.{rules}
 use Rattle.walk.specs.Walk.{wrote}
 use Rattle.read_packets.specs.Packets.{packets}
 use Rattle.read_ss2.proofs.Laws.{line_wrote, line_packets_lem}

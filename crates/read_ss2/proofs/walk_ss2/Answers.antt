@@ -1,15 +1,10 @@
 -- The invariant: the lines that are left, from this row and offset on, on the picture as it is now, give what the body gives on the picture as it was. A skip goes down at least one row, a line counts one less: the measure is lines and rows left.
-use mathlib.Core.Path.{◌≡◌, ap, ◌∙◌, sym, refl, subst}
-use Prim.Native.Nat.{◌≤◌, ◌<◌, ◌-◌, ◌+◌}
+use mathlib.Core.Path.{ap, ◌∙◌, sym, refl, subst}
 use native.Mathlib.Omega.{arith}
-use borrow.Author.Rules.{rules}
-use lib.ListN.{length}
 use Rattle.words.proofs.Laws.{row_in}
 use Rattle.walk.specs.Walk.{Walk}
 use Rattle.walk.proofs.Laws.{VerdictIn, seen, seen_gives, seen_none}
-use Rattle.read_ss2.specs.declared.Line.TheVariants.{Down, Row}
-use Rattle.read_ss2.specs.Ss2.{line_at, ss2}
-use Rattle.read_ss2.proofs.Laws.{line_in, line_down, line_ends, lines_from, lines_none, lines_stop, lines_down, lines_on, lines_stopped, ss2_cut, ss2_open}
+use Rattle.read_ss2.proofs.Laws.{line_in, line_down, line_ends, lines_none, lines_stop, lines_down, lines_on, lines_stopped, ss2_cut, ss2_open}
 use Rattle.read_ss2.proofs.walk_ss2.Goals as goal
 
 pub returns-then-body-lt2 : goal.returns-then-body-lt2

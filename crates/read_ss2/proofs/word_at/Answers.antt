@@ -1,6 +1,5 @@
 -- The word's two bytes make it, and its high bits decide.
 use mathlib.Core.Path.{ap, ◌∙◌}
-use borrow.Author.Rules.{rules}
 use Rattle.read_ss2.specs.Ss2.{word_of}
 use Rattle.read_ss2.proofs.word_at.Goals as goal
 

@@ -2,7 +2,6 @@
 use mathlib.Core.Path.{◌≡◌}
 use Prim.Native.Nat.{◌/◌}
 use native.Mathlib.Omega.{arith}
-use borrow.Author.Rules.{rules}
 use Rattle.read_ss2.specs.Ss2.{word_of}
 use Rattle.read_ss2.proofs.word_of.Goals as goal
 

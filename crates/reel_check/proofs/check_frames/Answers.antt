@@ -3,7 +3,6 @@ use Rattle.chunks.specs.declared.Layout.TheVariants.{Loose}
 use Rattle.state.specs.State.{state}
 use Rattle.reel_play.specs.Play.{shown, play_all}
 use Rattle.reel_check.proofs.Laws.{ring_stopped, ring_compared, ring_told}
-use borrow.Author.Rules.{rules}
 use Rattle.reel_check.proofs.check_frames.Goals as goal
 
 pub returns-then-same_state : goal.returns-then-same_state

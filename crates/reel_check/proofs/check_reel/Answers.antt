@@ -1,20 +1,14 @@
 -- `check_reel` meets its contract: the checks stand in the order of the paper, and the pairs are lent on, cut to their exact lengths, only where all of them held.
-use mathlib.Core.Path.{◌≡◌, ◌∙◌, sym}
-use mathlib.Core.Bool.{true}
+use mathlib.Core.Path.{◌∙◌, sym}
 use Prim.Native.Nat.{◌-◌}
 use native.Mathlib.Omega.{arith}
-use borrow.Author.Tests.{not-true, not-false}
 use Rattle.words.proofs.Laws.{span_length}
 use Rattle.format.specs.Limits.{area}
 use Rattle.format.proofs.Laws.{size_in_lem}
-use Rattle.state.specs.State.{state, enough}
+use Rattle.state.specs.State.{state}
 use Rattle.state.proofs.Laws.{enough_in, front_exact}
-use Rattle.reel_header.specs.Head.{head_of}
-use Rattle.reel_header.specs.declared.Takes.TheVariants.{Both}
-use Rattle.reel_header.specs.declared.Head.TheVariants.{Reel}
-use Rattle.reel_header.proofs.Laws.{ReelIn, head_in}
+use Rattle.reel_header.proofs.Laws.{head_in}
 use Rattle.reel_check.proofs.Laws.{check_fault, check_short, check_second_short, check_laid}
-use borrow.Author.Rules.{rules}
 use Rattle.reel_check.proofs.check_reel.Goals as goal
 
 pub overflow_mul-n : goal.overflow_mul-n

@@ -2,7 +2,6 @@
 use mathlib.Core.Path.{ap, ◌∙◌, sym}
 use mathlib.Core.Bool.{Bool, ◌&&◌}
 use Rattle.words.specs.Words.{same}
-use borrow.Author.Rules.{rules}
 use Rattle.reel_check.proofs.same_state.Goals as goal
 
 pub returns-then-same_bytes : goal.returns-then-same_bytes

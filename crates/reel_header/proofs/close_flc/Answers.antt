@@ -1,5 +1,4 @@
 -- `close_flc` meets its contract: each field is stored in what stood before.
-use borrow.Author.Rules.{rules}
 use Rattle.reel_header.proofs.close_flc.Goals as goal
 
 pub returns : goal.returns

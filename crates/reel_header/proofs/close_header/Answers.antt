@@ -1,5 +1,4 @@
 -- `close_header` meets its contract: size and frames are stored, and then, of an FLC, the flags and both oframes.
-use borrow.Author.Rules.{rules}
 use Rattle.reel_header.proofs.Laws.{closed_flc, closed_fli}
 use Rattle.reel_header.proofs.close_header.Goals as goal
 

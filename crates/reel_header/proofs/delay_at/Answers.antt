@@ -1,5 +1,4 @@
 -- `delay_at` meets its contract: at each format the definition computes to the word that was read.
-use borrow.Author.Rules.{rules}
 use Rattle.reel_header.proofs.delay_at.Goals as goal
 
 pub returns-in-Flc : goal.returns-in-Flc

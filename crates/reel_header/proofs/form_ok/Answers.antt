@@ -1,6 +1,5 @@
 -- `form_ok` meets its contract: one test for each part of the definition.
 use borrow.Author.Tests.{le-leb, lt-leb, eq-eqb, ne_eqb}
-use borrow.Author.Rules.{rules}
 use Rattle.reel_header.proofs.form_ok.Goals as goal
 
 pub returns-then-depth-ne-DEPTH : goal.returns-then-depth-ne-DEPTH

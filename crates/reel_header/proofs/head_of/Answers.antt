@@ -1,12 +1,8 @@
 -- `head_of` meets its contract: the checks stand in the paper's order.
 use mathlib.Core.Bool.{true, false}
-use mathlib.Core.Path.{◌≡◌, ◌∙◌, sym, refl}
-use borrow.Author.Tests.{lt-leb, le-leb, not-true, not-false}
-use borrow.Author.Rules.{rules}
-use lib.Dec.{leb}
-use lib.ListN.{length}
+use mathlib.Core.Path.{◌∙◌, sym, refl}
+use borrow.Author.Tests.{lt-leb, le-leb}
 use Rattle.chunks.specs.Spans.{HEADER_BYTES}
-use Rattle.reel_header.specs.Head.{magic_ok}
 use Rattle.reel_header.proofs.Laws.{head_is}
 use Rattle.reel_header.proofs.head_of.Goals as goal
 

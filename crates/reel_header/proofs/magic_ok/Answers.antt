@@ -1,5 +1,4 @@
 -- `magic_ok` meets its contract: at each choice the definition computes to its tests.
-use borrow.Author.Rules.{rules}
 use borrow.Author.Tests.{ne_eqb, eq-eqb}
 use Rattle.reel_header.proofs.magic_ok.Goals as goal
 

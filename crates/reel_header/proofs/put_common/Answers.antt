@@ -1,7 +1,6 @@
 -- `put_common` meets its contract: all is set to zero, and then each field is stored.
 use mathlib.Core.Path.{ap, ◌∙◌}
 use Prim.Native.Nat.{ℕ}
-use borrow.Author.Rules.{rules}
 use lib.ListN.{replicate}
 use Rattle.reel_header.proofs.Laws.{blank_stored}
 use Rattle.reel_header.proofs.put_common.Goals as goal

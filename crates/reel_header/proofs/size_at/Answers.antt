@@ -1,5 +1,4 @@
 -- `size_at` meets its contract: each field is the word that was read.
-use borrow.Author.Rules.{rules}
 use Rattle.reel_header.proofs.size_at.Goals as goal
 
 pub returns : goal.returns

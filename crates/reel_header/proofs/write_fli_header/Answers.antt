@@ -1,5 +1,4 @@
 -- `write_fli_header` meets its contract: the speed is stored behind the common fields.
-use borrow.Author.Rules.{rules}
 use Rattle.reel_header.proofs.Laws.{opened_fli_stored}
 use Rattle.reel_header.proofs.write_fli_header.Goals as goal
 

@@ -1,5 +1,4 @@
 -- `write_header` meets its contract: each field that is not zero is stored behind the common ones.
-use borrow.Author.Rules.{rules}
 use Rattle.reel_header.proofs.Laws.{opened_stored}
 use Rattle.reel_header.proofs.write_header.Goals as goal
 

@@ -2,7 +2,6 @@
 use mathlib.Core.Path.{ap₂, ◌∙◌}
 use Rattle.state.specs.State.{state}
 use Rattle.reel_play.proofs.Laws.{exact_blank}
-use borrow.Author.Rules.{rules}
 use Rattle.reel_play.proofs.clear.Goals as goal
 
 pub returns : goal.returns

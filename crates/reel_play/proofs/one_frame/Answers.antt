@@ -1,20 +1,17 @@
 -- `one_frame` meets its contract: the frame that the step leads to lies within the bytes; it leaves what its playing leaves.
-use mathlib.Core.Path.{◌≡◌, ap, ◌∙◌, sym}
+use mathlib.Core.Path.{ap, ◌∙◌, sym}
 use Prim.Native.Nat.{◌-◌}
 use native.Mathlib.Omega.{arith}
 use Rattle.words.specs.Words.{part}
 use Rattle.words.proofs.Laws.{span_length}
 use Rattle.state.specs.State.{state}
-use Rattle.chunks.specs.Spans.{next_at}
-use Rattle.chunks.specs.declared.Next.TheVariants.{Frame}
-use Rattle.chunks.proofs.Spans.{NextIn, next_in}
+use Rattle.chunks.proofs.Spans.{next_in}
 use Rattle.reel_play.specs.Play.{ran}
 use Rattle.reel_play.specs.declared.Ran.TheVariants.{Stopped, To}
 use Rattle.read_frame.specs.Frame.{frame}
 use Rattle.read_frame.proofs.Laws.{settled_done, settled_refused}
 use Rattle.read_frame.proofs.Theorems.{refused_within}
 use Rattle.reel_play.proofs.Laws.{one_fault, one_refused, one_played}
-use borrow.Author.Rules.{rules}
 use Rattle.reel_play.proofs.one_frame.Goals as goal
 
 pub slice_bounds-play_frame-count : goal.slice_bounds-play_frame-count

@@ -1,13 +1,12 @@
 -- `play_all` meets its contract: where frame 1 was accepted, the further frames go on from its end and its state; the second pair is not touched again.
-use mathlib.Core.Path.{◌≡◌, ap, ap₂, ◌∙◌, sym}
+use mathlib.Core.Path.{ap, ap₂, ◌∙◌, sym}
 use mathlib.Core.List.{List}
 use Prim.Native.Nat.{ℕ}
 use Rattle.state.specs.State.{blank, state}
-use Rattle.reel_play.specs.Play.{Progress, ran, one_frame, shown}
-use Rattle.reel_play.specs.declared.Ran.TheVariants.{Stopped, To}
+use Rattle.reel_play.specs.Play.{Progress, shown}
+use Rattle.reel_play.specs.declared.Ran.TheVariants.{Stopped}
 use Rattle.reel_play.proofs.Laws.{exact_kept, one_ran, one_in, all_stopped, all_more}
 use Rattle.format.specs.Limits.{area}
-use borrow.Author.Rules.{rules}
 use Rattle.reel_play.proofs.play_all.Goals as goal
 
 pub play_frames-requires : goal.play_frames-requires

@@ -3,7 +3,6 @@ use mathlib.Core.Path.{ap, ◌∙◌}
 use Rattle.state.specs.State.{State, state}
 use Rattle.reel_play.specs.Play.{one_frame}
 use Rattle.reel_play.proofs.Laws.{exact_kept}
-use borrow.Author.Rules.{rules}
 use Rattle.reel_play.proofs.play_first.Goals as goal
 
 pub one_frame-ran-requires : goal.one_frame-ran-requires

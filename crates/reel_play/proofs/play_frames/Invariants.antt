@@ -1,12 +1,9 @@
 -- `play_frames` meets its contract. The invariant: all frames from the start on the state as found come to what the frames left come to on the state as it is.
-use mathlib.Core.Path.{◌≡◌, ap, ◌∙◌, sym, refl}
+use mathlib.Core.Path.{◌≡◌}
 use Prim.Native.Nat.{◌≤◌}
 use lib.ListN.{length}
 use Rattle.state.specs.State.{state, Exact}
-use Rattle.reel_play.specs.Play.{Progress, ran, one_frame, frames}
-use Rattle.reel_play.specs.declared.Ran.TheVariants.{To}
-use Rattle.reel_play.proofs.Laws.{exact_kept, one_ran, one_in, frames_none, frames_stopped, frames_more}
-use borrow.Author.Rules.{rules}
+use Rattle.reel_play.specs.Play.{frames}
 use Rattle.reel_play.proofs.play_frames.Given as goal
 
 abbrev pub invariant-loop-left : goal.invariant-loop-left

@@ -1,10 +1,10 @@
 -- `copy` meets its contract. The invariant: the first i bytes are those of src, the rest as found.
-use mathlib.Core.List.{List, ◌++◌, map}
-use mathlib.Core.Path.{◌≡◌, refl, ap, ◌∙◌}
-use Prim.Native.Nat.{ℕ, ◌≤◌, ◌-◌, ◌+◌}
+use mathlib.Core.List.{List}
+use mathlib.Core.Path.{refl, ap, ◌∙◌}
+use Prim.Native.Nat.{ℕ}
 use native.Mathlib.Omega.{arith}
 use borrow.Author.Rules.{rules}
-use lib.ListN.{length, drop, take, set, get_or}
+use lib.ListN.{set, get_or}
 use Rattle.words.proofs.Runs.{map_more, mapped_all, map_same}
 use Rattle.words.proofs.copy.Invariants.{itself}
 use Rattle.words.proofs.copy.Goals as goal

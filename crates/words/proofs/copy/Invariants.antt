@@ -1,11 +1,8 @@
 -- `copy` meets its contract. The invariant: the first i bytes are those of src, the rest as found.
-use mathlib.Core.List.{List, ◌++◌, map}
-use mathlib.Core.Path.{◌≡◌, refl, ap, ◌∙◌}
-use Prim.Native.Nat.{ℕ, ◌≤◌, ◌-◌, ◌+◌}
-use native.Mathlib.Omega.{arith}
-use borrow.Author.Rules.{rules}
-use lib.ListN.{length, drop, take, set, get_or}
-use Rattle.words.proofs.Runs.{map_more, mapped_all, map_same}
+use mathlib.Core.List.{◌++◌, map}
+use mathlib.Core.Path.{◌≡◌}
+use Prim.Native.Nat.{ℕ, ◌≤◌, ◌-◌}
+use lib.ListN.{length, drop, take}
 use Rattle.words.proofs.copy.Given as goal
 
 abbrev pub itself : ℕ → ℕ

@@ -1,7 +1,6 @@
 -- `copy_eight` meets its contract: four bytes, and then as many again (`halves_copied`).
 use Prim.Native.Nat.{◌+◌}
 use native.Mathlib.Omega.{arith}
-use borrow.Author.Rules.{rules}
 use Rattle.words.proofs.Runs.{halves_copied, four_taken}
 use Rattle.words.proofs.copy_eight.Goals as goal
 

@@ -1,7 +1,6 @@
 -- `copy_few` meets its contract: the first bytes and the last as many leave no gap (`ends_copied`).
 use Prim.Native.Nat.{◌-◌}
 use native.Mathlib.Omega.{arith}
-use borrow.Author.Rules.{rules}
 use lib.ListN.{length}
 use Rattle.words.proofs.Runs.{ends_copied, one_copied}
 use Rattle.words.proofs.copy_few.Goals as goal

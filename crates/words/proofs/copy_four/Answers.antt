@@ -1,6 +1,5 @@
 -- `copy_four` meets its contract: the four bytes stored are what src has there.
 use native.Mathlib.Omega.{arith}
-use borrow.Author.Rules.{rules}
 use Rattle.words.proofs.Runs.{four_taken}
 use Rattle.words.proofs.copy_four.Goals as goal
 

@@ -1,6 +1,5 @@
 -- `copy_two` meets its contract: two stores side by side are one `put`, of what src has there.
 use native.Mathlib.Omega.{arith}
-use borrow.Author.Rules.{rules}
 use lib.ListN.{length-set}
 use Rattle.words.proofs.Runs.{two_taken}
 use Rattle.words.proofs.Laws.{put_two}

@@ -1,10 +1,9 @@
 -- `fill` meets its contract. The invariant: the first i bytes are set.
 use mathlib.Core.Path.{◌≡◌, sym, ◌∙◌}
-use Prim.Native.Nat.{◌≤◌, ◌-◌}
 use native.Mathlib.Omega.{arith}
 use borrow.Author.Rules.{rules}
 use lib.Seq.{take_all}
-use lib.ListN.{length, take, replicate, length-set}
+use lib.ListN.{length, length-set}
 use Rattle.words.proofs.Runs.{fill_step}
 use Rattle.words.proofs.fill.Goals as goal
 

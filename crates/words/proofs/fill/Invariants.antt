@@ -1,11 +1,7 @@
 -- `fill` meets its contract. The invariant: the first i bytes are set.
-use mathlib.Core.Path.{◌≡◌, sym, ◌∙◌}
+use mathlib.Core.Path.{◌≡◌}
 use Prim.Native.Nat.{◌≤◌, ◌-◌}
-use native.Mathlib.Omega.{arith}
-use borrow.Author.Rules.{rules}
-use lib.Seq.{take_all}
-use lib.ListN.{length, take, replicate, length-set}
-use Rattle.words.proofs.Runs.{fill_step}
+use lib.ListN.{length, take, replicate}
 use Rattle.words.proofs.fill.Given as goal
 
 abbrev pub invariant-loop-i : goal.invariant-loop-i

@@ -1,7 +1,6 @@
 -- `fill_eight` meets its contract: four bytes, and then as many again.
 use mathlib.Core.Path.{refl}
 use native.Mathlib.Omega.{arith}
-use borrow.Author.Rules.{rules}
 use lib.ListN.{replicate}
 use Rattle.words.proofs.Laws.{put_then}
 use Rattle.words.proofs.fill_eight.Goals as goal

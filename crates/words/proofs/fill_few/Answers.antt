@@ -1,6 +1,5 @@
 -- `fill_few` meets its contract: every byte of one to three is the first, the middle one or the last (`few_filled`).
 use native.Mathlib.Omega.{arith}
-use borrow.Author.Rules.{rules}
 use lib.ListN.{length-set}
 use Rattle.words.proofs.Runs.{few_filled}
 use Rattle.words.proofs.fill_few.Goals as goal

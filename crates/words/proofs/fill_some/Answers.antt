@@ -1,7 +1,6 @@
 -- `fill_some` meets its contract: the first bytes and the last as many leave no gap (`ends_filled`).
 use Prim.Native.Nat.{◌-◌}
 use native.Mathlib.Omega.{arith}
-use borrow.Author.Rules.{rules}
 use lib.ListN.{length}
 use Rattle.words.proofs.Runs.{ends_filled}
 use Rattle.words.proofs.fill_some.Goals as goal

@@ -3,7 +3,6 @@ use Rattle.words.proofs.Laws.{magnitude_plus, magnitude_minus}
 use native.Mathlib.Omega.{arith}
 use Prim.Native.Nat.{ℕ, ◌-◌}
 use mathlib.Core.Path.{ap, ◌∙◌, sym}
-use borrow.Author.Rules.{rules}
 use Rattle.words.proofs.magnitude_of.Goals as goal
 
 pub returns-then-x-lt128 : goal.returns-then-x-lt128

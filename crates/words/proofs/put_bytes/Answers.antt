@@ -1,5 +1,4 @@
 -- `put_bytes` meets its contract: the lent part comes back as v.
-use borrow.Author.Rules.{rules}
 use native.Mathlib.Omega.{arith}
 use Rattle.words.proofs.Laws.{lent_back}
 use lib.ListN.{length}

@@ -1,6 +1,5 @@
 -- `put_four` meets its contract: four stores side by side are one `put`.
 use native.Mathlib.Omega.{arith}
-use borrow.Author.Rules.{rules}
 use lib.ListN.{length-set}
 use Rattle.words.proofs.Laws.{put_four}
 use Rattle.words.proofs.put_four.Goals as goal

@@ -1,5 +1,4 @@
 -- `put_two` meets its contract: two stores side by side are one `put`.
-use borrow.Author.Rules.{rules}
 use native.Mathlib.Omega.{arith}
 use lib.ListN.{length-set}
 use Rattle.words.proofs.Laws.{put_two}
