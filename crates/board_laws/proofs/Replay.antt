@@ -11,7 +11,7 @@ use Rattle.chunks.specs.declared.Next.TheVariants.{Frame}
 use Rattle.reel_header.specs.declared.Takes.TheVariants.{Both}
 use Rattle.reel_header.proofs.Laws.{head_in}
 use Rattle.board_clock.specs.declared.Stands.{Stands}
-use Rattle.board_clock.specs.Clock.{first, stepped}
+use Rattle.board_clock.specs.Clock.{stepped}
 use Rattle.board_clock.specs.Replay.{numbers}
 use Rattle.board_clock.proofs.Laws.{numbers_none, numbers_more, replay_fitted}
 use Rattle.board_player.specs.declared.Player.{Player}

@@ -1,5 +1,5 @@
 -- Ticks one after the other, and what is promised of them (document 02, Req 01).
-use Rattle.std.specs.Prelude.{ℕ, suc, ◌+◌, ◌-◌, ◌≤◌, List, [], ◌∷◌, ◌++◌, ◌≡◌, get_or}
+use Rattle.std.specs.Prelude.{ℕ, suc, ◌-◌, ◌≤◌, List, [], ◌∷◌, ◌++◌, ◌≡◌, get_or}
 use Rattle.format.specs.Limits.{area}
 use Rattle.answer.specs.Answer.{Said, done}
 use Rattle.state.specs.State.{State, refilled}

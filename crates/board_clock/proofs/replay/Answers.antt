@@ -1,5 +1,5 @@
 -- `replay` meets its contract: the checks stand in the order of the paper, and the numbers are stored only where both held.
-use Rattle.std.proofs.Common.{length, ◌∙◌, rules}
+use Rattle.std.proofs.Common.{length, ◌∙◌}
 use Rattle.state.proofs.Laws.{fitted_none, fitted_whole}
 use Rattle.board_clock.specs.Clock.{first}
 use Rattle.board_clock.specs.Replay.{numbers}

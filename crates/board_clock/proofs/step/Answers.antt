@@ -1,5 +1,5 @@
 -- `step` meets its contract: what the reading brings decides what stands then.
-use Rattle.std.proofs.Common.{ℕ, sym, ◌∙◌, ap₂, rules}
+use Rattle.std.proofs.Common.{ℕ, sym, ◌∙◌, ap₂}
 use Rattle.board_clock.specs.Clock.{turn, stands}
 use Rattle.board_clock.specs.declared.Due.TheVariants.{Nothing, Frame, SetBack}
 use Rattle.board_clock.proofs.Laws.{step_by}

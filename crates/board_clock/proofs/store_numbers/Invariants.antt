@@ -1,6 +1,6 @@
 -- `store_numbers` meets its contract: each turn stores the number that stands after one reading more.
-use Rattle.std.proofs.Common.{suc, ◌-◌, ◌≤◌, length, refl, arith}
-use Rattle.board_clock.proofs.Numbers.{Storing, storing_first, stored_small, storing_again, storing_done}
+use Rattle.std.proofs.Common.{◌-◌, length}
+use Rattle.board_clock.proofs.Numbers.{Storing}
 use Rattle.board_clock.proofs.store_numbers.Given as goal
 
 abbrev pub invariant-loop-i : goal.invariant-loop-i

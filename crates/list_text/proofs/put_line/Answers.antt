@@ -1,7 +1,6 @@
 -- `put_line` meets its contract: its four numbers one behind the other.
 use native.Mathlib.Omega.{arith}
 use Rattle.list_text.proofs.Laws.{chunk_length, stored_chunk}
-use borrow.Author.Rules.{rules}
 use Rattle.list_text.proofs.put_line.Goals as goal
 
 pub put_number-a-requires : goal.put_number-a-requires

@@ -1,7 +1,6 @@
 -- `put_number` meets its contract: the number, and one byte behind it.
 use native.Mathlib.Omega.{arith}
 use Rattle.list_text.proofs.Laws.{numeral_length, stored_byte}
-use borrow.Author.Rules.{rules}
 use Rattle.list_text.proofs.put_number.Goals as goal
 
 pub put_decimal-end-requires : goal.put_decimal-end-requires

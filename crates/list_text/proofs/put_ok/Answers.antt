@@ -1,6 +1,5 @@
 -- `put_ok` meets its contract: three bytes one behind the other.
 use Rattle.list_text.proofs.Laws.{stored_ok}
-use borrow.Author.Rules.{rules}
 use Rattle.list_text.proofs.put_ok.Goals as goal
 
 pub returns : goal.returns

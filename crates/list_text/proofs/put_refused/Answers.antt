@@ -7,7 +7,6 @@ use Rattle.answer.specs.Answer.{number}
 use Rattle.list_text.specs.Stored.{Stored}
 use Rattle.list_text.specs.Text.{numeral, SPACE}
 use Rattle.list_text.proofs.Laws.{refused_length, stored_refused}
-use borrow.Author.Rules.{rules}
 use Rattle.list_text.proofs.put_refused.Goals as goal
 
 pub put_two-requires : goal.put_two-requires
