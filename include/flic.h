@@ -1,4 +1,4 @@
-/* Crookribbon: the FLC and FLI codec for C. Link libcapi.a, which `rt staticlib capi` makes in target/staticlib/.
+/* Crookribbon: the FLC and FLI codec for C. Link libcapi.a, which `scripts/library` makes in target/staticlib/.
  *
  * No call trusts its caller: any bytes, sizes and lengths may be handed in. A pointer may be anything but null
  * where its length is 0; otherwise it points to that many bytes, and no two lent slices of one call overlap.

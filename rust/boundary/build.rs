@@ -23,7 +23,7 @@ fn main() {
     println!("cargo:rerun-if-changed={}", library.display());
     if !library.is_file() {
         eprintln!(
-            "{} is missing: run rt staticlib capi first, or set FLIC_LIB_DIR to the directory that holds {LIBRARY}",
+            "{} is missing: run scripts/library first, or set FLIC_LIB_DIR to the directory that holds {LIBRARY}",
             library.display()
         );
         std::process::exit(1);

@@ -11,7 +11,7 @@
 //! A file's [`Format`] is told by its header; who builds one opens it with [`Reel::open`] or [`Reel::open_fli`], and who
 //! reads or writes one frame says of which format it is. An FLC counts in [`Milliseconds`], an FLI in [`Jiffies`].
 //!
-//! The codec is `libcapi.a`, which `rt staticlib capi` makes; the environment's `FLIC_LIB_DIR` names the directory that
+//! The codec is `libcapi.a`, which `scripts/library` makes; the environment's `FLIC_LIB_DIR` names the directory that
 //! holds it, if it isn't `target/staticlib` of the repository.
 //!
 //! ```
