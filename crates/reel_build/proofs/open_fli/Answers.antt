@@ -25,7 +25,7 @@ pub returns-then-delay-gt65535 : goal.returns-then-delay-gt65535
 returns-then-delay-gt65535 c =
     let a = c.args in
     refused_none _ _ _ _ c.refused-then-delay-gt65535.ensures c.no_reel-then-delay-gt65535.ensures (lent_bytes a.bytes.now)
-    ∙ open_fli_is a.width a.height a.bytes.now true a.delay false (sym c.size_fits.ensures ∙ c.if-not-size_fits.false) (lt-leb a.delay 65535 c.if-delay-gt65535.true)
+    ∙ open_fli_is a.width a.height a.bytes.now true a.delay false (sym c.size_fits.ensures ∙ c.if-not-size_fits.false) (lt-leb a.delay 65535 (omega arith))
 
 pub returns-then-bytes-lt-HEADER_BYTES : goal.returns-then-bytes-lt-HEADER_BYTES
 returns-then-bytes-lt-HEADER_BYTES c =
