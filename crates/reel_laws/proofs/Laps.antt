@@ -9,7 +9,7 @@ use native.Mathlib.Omega.{arith}
 use native.Mathlib.Nat.{not-suc-le-zero}
 use lib.ListN.{length, take, drop, drop_of_length-le, length-replicate}
 use lib.Seq.{take_all}
-use Rattle.words.specs.Words.{part, same}
+use Rattle.words.specs.Words.{part}
 use Rattle.words.specs.Writes.{Write, applied}
 use Rattle.answer.specs.declared.Answer.{Answer}
 use Rattle.answer.specs.declared.Answer.TheVariants.{Done, Refused}

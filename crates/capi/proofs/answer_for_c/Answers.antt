@@ -3,7 +3,6 @@ use Rattle.capi.specs.Capi.{number_of, place_of}
 use Rattle.answer.specs.declared.Answer.{Answer}
 use Rattle.answer.specs.Answer.{told}
 use mathlib.Core.Path.{ap, ◌∙◌, sym}
-use borrow.Author.Rules.{rules}
 use Rattle.capi.proofs.answer_for_c.Goals as goal
 
 pub returns-in-Done : goal.returns-in-Done

@@ -3,7 +3,6 @@ use mathlib.Core.Path.{ap, ◌∙◌, sym}
 use Rattle.answer.specs.declared.Answer.{Answer}
 use Rattle.answer.specs.Answer.{told}
 use Rattle.capi.specs.Capi.{number_of, place_of, record_of}
-use borrow.Author.Rules.{rules}
 use Rattle.capi.proofs.built_for_c.Goals as goal
 
 pub returns-in-Refused : goal.returns-in-Refused

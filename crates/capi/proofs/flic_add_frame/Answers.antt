@@ -3,7 +3,6 @@ use mathlib.Core.Path.{ap, ◌∙◌}
 use Rattle.state.specs.State.{state}
 use Rattle.reel_build.specs.declared.Reel.{Reel}
 use Rattle.reel_build.specs.Building.{add_frame}
-use borrow.Author.Rules.{rules}
 use Rattle.capi.proofs.Laws.{held_reel}
 use Rattle.capi.proofs.flic_add_frame.Goals as goal
 

@@ -1,5 +1,4 @@
 -- `flic_check_reel` meets its contract: it hands on what `check_reel` answers.
-use borrow.Author.Rules.{rules}
 use Rattle.capi.proofs.Laws.{held}
 use Rattle.capi.proofs.flic_check_reel.Goals as goal
 

@@ -2,7 +2,6 @@
 use mathlib.Core.Path.{subst}
 use Rattle.answer.specs.Answer.{Said}
 use Rattle.capi.specs.Capi.{Told}
-use borrow.Author.Rules.{rules}
 use Rattle.capi.proofs.flic_check_trailer.Goals as goal
 
 pub returns : goal.returns

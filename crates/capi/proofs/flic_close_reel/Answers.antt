@@ -3,7 +3,6 @@ use mathlib.Core.Path.{ap, ◌∙◌}
 use Rattle.state.specs.State.{state}
 use Rattle.reel_build.specs.declared.Reel.{Reel}
 use Rattle.reel_close.specs.Closing.{close_reel}
-use borrow.Author.Rules.{rules}
 use Rattle.capi.proofs.Laws.{held_reel}
 use Rattle.capi.proofs.flic_close_reel.Goals as goal
 

@@ -1,6 +1,5 @@
 -- `flic_in_jiffies` meets its contract: it hands on what `in_jiffies` gives.
 use mathlib.Core.Path.{ap, sym, ◌∙◌}
-use borrow.Author.Rules.{rules}
 use Rattle.capi.specs.Capi.{jiffies_for}
 use Rattle.capi.proofs.flic_in_jiffies.Goals as goal
 

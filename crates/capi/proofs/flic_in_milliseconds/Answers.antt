@@ -1,6 +1,5 @@
 -- `flic_in_milliseconds` meets its contract: the test decides whether there is a delay, and `in_milliseconds` gives it.
 use mathlib.Core.Path.{ap}
-use borrow.Author.Rules.{rules}
 use borrow.Author.Tests.{le-leb, lt-leb}
 use Rattle.delay.specs.declared.Milliseconds.{Milliseconds}
 use Rattle.capi.specs.declared.DelayAnswer.{DelayAnswer}

@@ -1,5 +1,4 @@
 -- `flic_list` meets its contract: it hands on what `list_into` answers.
-use borrow.Author.Rules.{rules}
 use Rattle.capi.proofs.Laws.{held_length}
 use Rattle.capi.proofs.flic_list.Goals as goal
 

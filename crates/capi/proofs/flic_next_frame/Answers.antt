@@ -2,7 +2,6 @@
 use mathlib.Core.Path.{ap, sym, ◌∙◌}
 use Prim.Native.Nat.{ℕ}
 use Rattle.capi.specs.Capi.{span_for}
-use borrow.Author.Rules.{rules}
 use Rattle.capi.proofs.flic_next_frame.Goals as goal
 
 pub returns-in-Fault : goal.returns-in-Fault

@@ -1,5 +1,4 @@
 -- `flic_open_reel` meets its contract: it hands on what `open_reel` answers.
-use borrow.Author.Rules.{rules}
 use Rattle.capi.proofs.Laws.{held_opened}
 use Rattle.capi.proofs.flic_open_reel.Goals as goal
 

@@ -1,6 +1,5 @@
 -- `flic_read_frame` meets its contract: it hands on what `read_frame` answers.
 use mathlib.Core.Path.{ap, ◌∙◌}
-use borrow.Author.Rules.{rules}
 use Rattle.format.specs.declared.Size.{Size}
 use Rattle.state.specs.State.{state}
 use Rattle.read_frame.specs.Reading.{read_frame}

@@ -1,7 +1,6 @@
 -- `flic_read_header` meets its contract: it hands on what `head_of` gives, field by field.
 use mathlib.Core.Path.{ap, sym, ◌∙◌}
 use Prim.Native.Nat.{ℕ}
-use borrow.Author.Rules.{rules}
 use Rattle.capi.specs.Capi.{header_for}
 use Rattle.capi.proofs.flic_read_header.Goals as goal
 

@@ -1,6 +1,5 @@
 -- `flic_replay` meets its contract: it hands on what `replay` answers.
 use Rattle.capi.proofs.Laws.{held_length}
-use borrow.Author.Rules.{rules}
 use Rattle.capi.proofs.flic_replay.Goals as goal
 
 pub returns : goal.returns

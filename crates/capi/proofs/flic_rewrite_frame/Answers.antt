@@ -1,6 +1,5 @@
 -- `flic_rewrite_frame` meets its contract: it hands on what `rewrite_frame` answers.
 use mathlib.Core.Path.{ap, ◌∙◌}
-use borrow.Author.Rules.{rules}
 use Rattle.format.specs.declared.Size.{Size}
 use Rattle.state.specs.State.{state}
 use Rattle.house_rewrite.specs.Rewriting.{rewrite_frame}

@@ -2,7 +2,6 @@
 use mathlib.Core.Path.{ap, sym, ◌∙◌}
 use Prim.Native.Nat.{ℕ}
 use native.Mathlib.Omega.{arith}
-use borrow.Author.Rules.{rules}
 use Rattle.house_rows.specs.Search.{turns_of}
 use Rattle.capi.specs.declared.RowFigures.{RowFigures}
 use Rattle.capi.specs.Capi.{figures_for}

@@ -1,6 +1,5 @@
 -- `flic_start_player` meets its contract: it hands on what `start_player` answers.
 use Rattle.capi.proofs.Laws.{held_player}
-use borrow.Author.Rules.{rules}
 use Rattle.capi.proofs.flic_start_player.Goals as goal
 
 pub returns : goal.returns

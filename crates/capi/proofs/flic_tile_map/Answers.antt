@@ -1,6 +1,5 @@
 -- `flic_tile_map` meets its contract: it hands on what `tile_map` answers.
 use Rattle.capi.proofs.Laws.{held_length}
-use borrow.Author.Rules.{rules}
 use Rattle.capi.proofs.flic_tile_map.Goals as goal
 
 pub returns : goal.returns

@@ -1,6 +1,5 @@
 -- `flic_write_frame` meets its contract: it hands on what `write_frame` answers.
 use mathlib.Core.Path.{ap, ◌∙◌}
-use borrow.Author.Rules.{rules}
 use Rattle.format.specs.declared.Size.{Size}
 use Rattle.state.specs.State.{state}
 use Rattle.house_frame.specs.Writing.{write_frame}

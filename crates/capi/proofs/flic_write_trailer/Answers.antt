@@ -1,5 +1,4 @@
 -- `flic_write_trailer` meets its contract: it hands on what `write_trailer` answers.
-use borrow.Author.Rules.{rules}
 use Rattle.capi.proofs.Laws.{held_length}
 use Rattle.capi.proofs.flic_write_trailer.Goals as goal
 

@@ -2,7 +2,6 @@
 use mathlib.Core.Path.{◌≡◌, ap₂, ◌∙◌, sym, ap}
 use mathlib.Core.Bool.{Bool, cond}
 use Prim.Native.Nat.{ℕ}
-use borrow.Author.Rules.{rules}
 use Rattle.format.specs.Limits.{format_number}
 use Rattle.reel_build.specs.declared.Reel.{Reel}
 use Rattle.capi.specs.declared.Record.{Record}

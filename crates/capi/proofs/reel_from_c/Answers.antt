@@ -1,5 +1,4 @@
 -- `reel_from_c` meets its contract: the fields of the record, and closed for any number but 0.
-use borrow.Author.Rules.{rules}
 use Rattle.capi.proofs.reel_from_c.Goals as goal
 
 pub returns : goal.returns

@@ -1,6 +1,5 @@
 -- `size_from_c` meets its contract: the numbers as they are, and the format that its number stands for.
 use mathlib.Core.Path.{ap}
-use borrow.Author.Rules.{rules}
 use Rattle.format.specs.Limits.{size_of}
 use Rattle.format.specs.declared.Format.{Format}
 use Rattle.capi.proofs.size_from_c.Goals as goal

@@ -4,7 +4,6 @@ use Prim.Native.Nat.{ℕ}
 use Rattle.board_player.specs.Player.{told_tick}
 use Rattle.board_player.specs.declared.Ticked.{Ticked}
 use Rattle.capi.specs.Capi.{number_of, place_of, event_of, Told}
-use borrow.Author.Rules.{rules}
 use Rattle.capi.proofs.tick_for_c.Goals as goal
 
 -- the numbers of an answer that is known to be a

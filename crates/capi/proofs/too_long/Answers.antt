@@ -1,7 +1,6 @@
 -- `too_long` meets its contract: the refusal's number is the paper's.
 use mathlib.Core.Path.{ap}
 use Prim.Native.Nat.{ℕ}
-use borrow.Author.Rules.{rules}
 use Rattle.capi.specs.declared.DelayAnswer.{DelayAnswer}
 use Rattle.capi.proofs.too_long.Goals as goal
 

@@ -3,7 +3,6 @@ use Rattle.capi.specs.Capi.{number_of, place_of, length_of}
 use Rattle.answer.specs.declared.Written.{Written}
 use Rattle.answer.specs.Answer.{told_written}
 use mathlib.Core.Path.{ap, ◌∙◌, sym}
-use borrow.Author.Rules.{rules}
 use Rattle.capi.proofs.written_for_c.Goals as goal
 
 pub returns-in-Done : goal.returns-in-Done

@@ -2,12 +2,10 @@
 use mathlib.Core.Path.{sym, ◌∙◌}
 use Prim.Native.Nat.{◌-◌}
 use native.Mathlib.Omega.{arith}
-use borrow.Author.Tests.{not-true, not-false}
-use borrow.Author.Rules.{rules}
 use lib.ListN.{length}
 use Rattle.format.specs.Limits.{area}
 use Rattle.format.proofs.Laws.{size_in_lem}
-use Rattle.state.specs.State.{State, state}
+use Rattle.state.specs.State.{state}
 use Rattle.state.specs.Outcome.{lent_bytes}
 use Rattle.state.proofs.Laws.{enough_in, front_exact}
 use Rattle.reel_build.proofs.Laws.{refused_keeps, end_in, add_few, add_closed, add_size, add_short, add_next_short, add_record, Passed, add_stopped, add_done}

@@ -1,5 +1,4 @@
 -- `add_ok` meets its contract: each return decides the test that it stands for.
-use borrow.Author.Rules.{rules}
 use Rattle.reel_build.proofs.add_ok.Goals as goal
 
 pub returns : goal.returns

@@ -1,13 +1,9 @@
 -- `append` meets its contract: the part lent on reaches from end as far as a file may, so the frame fits in it exactly where it fits in the file.
-use mathlib.Core.List.{List}
-use mathlib.Core.Path.{◌≡◌}
-use Prim.Native.Nat.{ℕ, ◌+◌, ◌-◌}
+use Prim.Native.Nat.{◌-◌}
 use native.Mathlib.Omega.{arith}
-use borrow.Author.Rules.{rules}
 use lib.ListN.{length}
 use Rattle.state.specs.State.{state}
 use Rattle.house_frame.specs.House.{house_frame}
-use Rattle.reel_build.specs.Building.{longest}
 use Rattle.reel_build.proofs.Laws.{longest_within, append_none, append_more, append_stopped}
 use Rattle.reel_build.proofs.append.Goals as goal
 

@@ -1,11 +1,10 @@
 -- `open_fli` meets its contract: the checks stand in the paper's order, and where all hold the header comes back in the first 128 bytes.
 use mathlib.Core.Bool.{true, false}
-use mathlib.Core.Path.{◌≡◌, refl, sym, ◌∙◌}
+use mathlib.Core.Path.{refl, sym, ◌∙◌}
 use native.Mathlib.Omega.{arith}
-use borrow.Author.Tests.{not-true, not-false, le-leb, lt-leb}
-use borrow.Author.Rules.{rules}
+use borrow.Author.Tests.{le-leb, lt-leb}
 use lib.Seq.{length-take-le}
-use Rattle.format.specs.Limits.{size_fits, size_of}
+use Rattle.format.specs.Limits.{size_of}
 use Rattle.format.specs.declared.Format.TheVariants.{Fli}
 use Rattle.format.proofs.Laws.{size_in_lem}
 use Rattle.delay.specs.Delay.{jiffies}

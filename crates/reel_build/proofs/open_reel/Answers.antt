@@ -1,11 +1,9 @@
 -- `open_reel` meets its contract: the checks stand in the paper's order, and where all hold the header comes back in the first 128 bytes.
 use mathlib.Core.Bool.{true, false}
-use mathlib.Core.Path.{◌≡◌, sym, ◌∙◌}
+use mathlib.Core.Path.{sym, ◌∙◌}
 use native.Mathlib.Omega.{arith}
-use borrow.Author.Tests.{not-true, not-false}
-use borrow.Author.Rules.{rules}
 use lib.Seq.{length-take-le}
-use Rattle.format.specs.Limits.{size_fits, size_of}
+use Rattle.format.specs.Limits.{size_of}
 use Rattle.format.specs.declared.Format.TheVariants.{Flc}
 use Rattle.format.proofs.Laws.{size_in_lem}
 use Rattle.state.specs.Outcome.{lent_bytes}

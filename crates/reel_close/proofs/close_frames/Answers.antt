@@ -1,10 +1,7 @@
 -- `close_frames` meets its contract: the pairs hold what the close's own playing showed, and the ring is written from them.
-use mathlib.Core.Bool.{true}
-use mathlib.Core.Path.{◌≡◌, ap, ap₂, sym, ◌∙◌}
+use mathlib.Core.Path.{ap, ap₂, sym, ◌∙◌}
 use Prim.Native.Nat.{◌-◌}
 use native.Mathlib.Omega.{arith}
-use borrow.Author.Tests.{not-true, not-false}
-use borrow.Author.Rules.{rules}
 use lib.Seq.{length-take-le}
 use lib.ListN.{length, take}
 use Rattle.answer.specs.declared.Refusal.TheVariants.{Cut}
@@ -14,7 +11,6 @@ use Rattle.chunks.specs.declared.Layout.TheVariants.{Packed}
 use Rattle.reel_play.specs.declared.Ran.TheVariants.{Stopped}
 use Rattle.reel_play.specs.Play.{Shown, shown}
 use Rattle.reel_play.proofs.Laws.{exact_kept}
-use Rattle.reel_build.specs.Building.{end_ok}
 use Rattle.reel_build.proofs.Laws.{refused_keeps, end_in}
 use Rattle.reel_close.proofs.Laws.{all_long, own_record, own_played, own_told, frames_stopped, frames_early, frames_ringed}
 use Rattle.reel_close.proofs.close_frames.Goals as goal

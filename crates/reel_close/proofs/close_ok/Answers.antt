@@ -1,6 +1,5 @@
 -- `close_ok` meets its contract: each return decides the test that it stands for.
 use borrow.Author.Tests.{le-leb, lt-leb}
-use borrow.Author.Rules.{rules}
 use Rattle.reel_close.proofs.close_ok.Goals as goal
 
 pub returns-then-frames-lt1 : goal.returns-then-frames-lt1

@@ -2,13 +2,11 @@
 use mathlib.Core.Path.{sym, ◌∙◌}
 use Prim.Native.Nat.{◌-◌}
 use native.Mathlib.Omega.{arith}
-use borrow.Author.Tests.{not-true, not-false}
-use borrow.Author.Rules.{rules}
 use Rattle.format.specs.Limits.{area}
 use Rattle.format.proofs.Laws.{size_in_lem}
 use Rattle.answer.specs.Answer.{told}
-use Rattle.state.specs.Outcome.{Memory, lent_bytes, lent_bytes_pairs, leaves}
-use Rattle.state.specs.State.{State, state}
+use Rattle.state.specs.Outcome.{lent_bytes, lent_bytes_pairs, leaves}
+use Rattle.state.specs.State.{state}
 use Rattle.state.proofs.Laws.{enough_in, front_exact}
 use Rattle.reel_build.specs.Record.{builds}
 use Rattle.reel_build.proofs.Laws.{refused_keeps}

@@ -1,8 +1,5 @@
 -- `put_ring` meets its contract: the ring is appended, and the header closed where that was done.
-use mathlib.Core.List.{List}
 use mathlib.Core.Path.{◌∙◌}
-use Prim.Native.Nat.{ℕ}
-use borrow.Author.Rules.{rules}
 use Rattle.state.specs.Outcome.{lent_bytes}
 use Rattle.state.specs.State.{state}
 use Rattle.house_frame.specs.House.{house_frame}

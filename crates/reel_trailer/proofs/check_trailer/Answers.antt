@@ -1,16 +1,9 @@
 -- `check_trailer` meets its contract: the header and the frame chunks are walked first, and only where all frames were met is what follows the size compared.
-use mathlib.Core.Path.{◌≡◌, ◌∙◌, sym, refl}
+use mathlib.Core.Path.{◌∙◌, sym, refl}
 use mathlib.Core.Bool.{true, false}
 use Prim.Native.Nat.{◌+◌, ◌-◌}
 use native.Mathlib.Omega.{arith}
-use borrow.Author.Rules.{rules}
-use lib.ListN.{take}
-use Rattle.reel_header.specs.Head.{head_of}
-use Rattle.chunks.specs.Spans.{HEADER_BYTES, top_frames}
-use Rattle.reel_header.specs.declared.Takes.TheVariants.{FlcOnly}
-use Rattle.reel_header.specs.declared.Head.TheVariants.{Reel}
-use Rattle.reel_header.proofs.Laws.{ReelIn, head_in}
-use Rattle.reel_trailer.specs.Trailer.{trailer_of, reel, trailer_walk}
+use Rattle.reel_header.proofs.Laws.{head_in}
 use Rattle.reel_trailer.proofs.Laws.{walk_fault, walk_to, walked_in, checked_refused, checked_bare, checked_compared}
 use Rattle.reel_trailer.proofs.check_trailer.Goals as goal
 

@@ -1,14 +1,10 @@
 -- `put_index` meets its contract. The invariant: the whole index stored at the front of the bytes as found is the rest of the index stored behind the entries that stand there.
-use mathlib.Core.Path.{◌≡◌, ◌∙◌, sym, ap, refl}
+use mathlib.Core.Path.{◌∙◌, sym, ap, refl}
 use Rattle.chunks.specs.declared.Layout.TheVariants.{Loose}
-use Prim.Native.Nat.{◌≤◌, ◌+◌, ◌*◌}
 use native.Mathlib.Omega.{arith}
 use borrow.Author.Rules.{rules}
-use lib.ListN.{length}
-use Rattle.words.specs.Writes.{put}
-use Rattle.chunks.specs.Spans.{HEADER_BYTES, Found, top_frames}
+use Rattle.chunks.specs.Spans.{Found}
 use Rattle.chunks.proofs.Spans.{next_in, found_none, found_fault, found_more}
-use Rattle.reel_trailer.specs.Trailer.{index}
 use Rattle.reel_trailer.proofs.Laws.{index_none, index_more}
 use Rattle.reel_trailer.proofs.put_index.Goals as goal
 

@@ -2,7 +2,6 @@
 use mathlib.Core.Path.{◌∙◌, sym, ap}
 use Prim.Native.Nat.{◌+◌, ◌*◌, ◌-◌}
 use native.Mathlib.Omega.{arith}
-use borrow.Author.Rules.{rules}
 use Rattle.words.specs.Words.{same}
 use Rattle.words.proofs.Laws.{same_other}
 use Rattle.chunks.specs.Spans.{HEADER_BYTES, top_frames}

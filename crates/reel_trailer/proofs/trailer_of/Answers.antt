@@ -1,12 +1,10 @@
 -- `trailer_of` meets its contract: four parts of the zeros come back filled, one behind the other, and together they are the trailer.
-use mathlib.Core.Path.{◌≡◌, ◌∙◌}
+use mathlib.Core.Path.{◌∙◌}
 use Prim.Native.Nat.{◌+◌, ◌*◌}
 use native.Mathlib.Omega.{arith}
-use borrow.Author.Rules.{rules}
-use lib.ListN.{length}
 use Rattle.chunks.specs.Spans.{HEADER_BYTES}
 use Rattle.chunks.proofs.Spans.{found_many}
-use Rattle.reel_trailer.proofs.Laws.{back_length, trailer_stored, back}
+use Rattle.reel_trailer.proofs.Laws.{back_length, trailer_stored}
 use Rattle.reel_trailer.proofs.trailer_of.Goals as goal
 
 pub slice_bounds-out-end-2 : goal.slice_bounds-out-end-2

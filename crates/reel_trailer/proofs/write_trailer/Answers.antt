@@ -1,16 +1,8 @@
 -- `write_trailer` meets its contract: the header and the frame chunks are walked first, room is asked for last, and the part behind the size comes back as the trailer.
-use mathlib.Core.Path.{◌≡◌, ◌∙◌, sym}
+use mathlib.Core.Path.{◌∙◌, sym}
 use Prim.Native.Nat.{◌+◌, ◌*◌, ◌-◌}
 use native.Mathlib.Omega.{arith}
-use borrow.Author.Rules.{rules}
-use lib.ListN.{take}
-use Rattle.reel_header.specs.Head.{head_of}
-use Rattle.chunks.specs.Spans.{HEADER_BYTES, top_frames}
-use Rattle.reel_header.specs.declared.Takes.TheVariants.{FlcOnly}
-use Rattle.reel_header.specs.declared.Head.TheVariants.{Reel}
-use Rattle.reel_header.proofs.Laws.{ReelIn, head_in}
-use Rattle.reel_trailer.specs.Trailer.{trailer_of, reel, trailer_walk}
-use Rattle.reel_trailer.specs.Room.{Walked}
+use Rattle.reel_header.proofs.Laws.{head_in}
 use Rattle.reel_trailer.proofs.Laws.{trailer_many, walk_fault, walk_to, walked_in, wrote_refused, wrote_short, wrote_back}
 use Rattle.reel_trailer.proofs.write_trailer.Goals as goal
 
