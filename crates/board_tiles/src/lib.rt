@@ -6,7 +6,7 @@ ghost use Rattle.words.specs.Writes.{put};
 ghost use Rattle.answer.specs.Answer.{told_written};
 ghost use Rattle.format.specs.Limits.{Sized};
 ghost use Rattle.state.specs.Outcome.{lent_bytes, leaves};
-ghost use Rattle.board_tiles.specs.Tiles.{TILE, tiles, changed};
+ghost use Rattle.board_tiles.specs.Tiles.{TILE as tile, tiles, changed};
 ghost use Rattle.board_tiles.specs.Marks.{BITS, word_of, marked, last_of, tile_row};
 ghost use Rattle.board_tiles.specs.Mapping.{tile_word, tile_words, tile_map};
 ghost use Rattle.board_tiles.specs.Noted.{tells, below, column_changed, noted, Noted, Room, Made};
@@ -39,7 +39,7 @@ fn differs(previous: &[u8], next: &[u8], at: usize) -> u8
 // Not 0 exactly if one of eight pixels below each other is changed.
 fn eight_differ(previous: &[u8], next: &[u8], at: usize, width: usize) -> u8
     requires { (at + 7 * width < length previous.now) × (at + 7 * width < length next.now) }
-    ensures { tells result ≡ below width previous.now next.now TILE at }
+    ensures { tells result ≡ below width previous.now next.now tile at }
 {
     differs(previous, next, at)
         | differs(previous, next, at + width)
@@ -53,8 +53,8 @@ fn eight_differ(previous: &[u8], next: &[u8], at: usize, width: usize) -> u8
 
 // Notes the columns of eight rows of pixels that begin at index at: sixteen columns at a time, as it is compiled, each pixel looked at once.
 fn note_eight(marks: &mut [u8], previous: &[u8], next: &[u8], at: usize, width: usize)
-    requires { (width ≤ length marks.old) × (at + TILE * width ≤ length previous.now) × (at + TILE * width ≤ length next.now) }
-    ensures { Noted marks.old marks.new width (λ x. below width previous.now next.now TILE (at + x)) }
+    requires { (width ≤ length marks.old) × (at + tile * width ≤ length previous.now) × (at + tile * width ≤ length next.now) }
+    ensures { Noted marks.old marks.new width (λ x. below width previous.now next.now tile (at + x)) }
 {
     let mut x = 0;
     while x < width {
@@ -92,7 +92,7 @@ fn note_rows(marks: &mut [u8], previous: &[u8], next: &[u8], at: usize, width: u
 
 // Notes the columns of tile row j.
 fn note_tiles(marks: &mut [u8], previous: &[u8], next: &[u8], width: usize, height: usize, j: usize)
-    requires { Sized width height × (width ≤ length marks.old) × (width * height ≤ length previous.now) × (width * height ≤ length next.now) × (TILE * j < height) }
+    requires { Sized width height × (width ≤ length marks.old) × (width * height ≤ length previous.now) × (width * height ≤ length next.now) × (tile * j < height) }
     ensures { Noted marks.old marks.new width (column_changed width height previous.now next.now j) }
 {
     let top = TILE * j;
@@ -106,7 +106,7 @@ fn note_tiles(marks: &mut [u8], previous: &[u8], next: &[u8], width: usize, heig
 
 // Whether one of the eight columns of tile i is noted.
 fn tile_noted(marks: &[u8], i: usize) -> bool
-    requires { TILE * i + TILE ≤ length marks.now }
+    requires { tile * i + tile ≤ length marks.now }
     ensures { result ≡ noted marks.now i }
 {
     let at = TILE * i;
@@ -123,7 +123,7 @@ fn tile_noted(marks: &[u8], i: usize) -> bool
 
 // The word of the first count tiles, from the last to the first.
 fn word_of(marks: &[u8], count: usize) -> u64
-    requires { (count ≤ BITS) × (TILE * count ≤ length marks.now) }
+    requires { (count ≤ BITS) × (tile * count ≤ length marks.now) }
     ensures { result ≡ word_of (noted marks.now) count }
 {
     let mut word = 0u64;
@@ -147,7 +147,7 @@ fn word_at(
     height: usize,
     j: usize,
 ) -> u64
-    requires { Sized width height × Room marks.old width × (width * height ≤ length previous.now) × (width * height ≤ length next.now) × (TILE * j < height) }
+    requires { Sized width height × Room marks.old width × (width * height ≤ length previous.now) × (width * height ≤ length next.now) × (tile * j < height) }
     ensures { Made result (tile_word width height previous.now next.now j) marks.new width }
 {
     note_tiles(marks, previous, next, width, height, j);

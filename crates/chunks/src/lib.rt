@@ -5,7 +5,7 @@
 ghost use Rattle.std.specs.Prelude.{◌≡◌, ◌≤◌, length};
 ghost use Rattle.chunks.specs.Headers.{header_at, frame_header};
 ghost use Rattle.chunks.specs.declared.Layout.TheVariants.{Loose, Packed};
-ghost use Rattle.chunks.specs.Spans.{HEADER_BYTES, next_at, frame_at, extent};
+ghost use Rattle.chunks.specs.Spans.{HEADER_BYTES as header_bytes, next_at, frame_at, extent};
 
 use answer::Refusal;
 use format::FRAME_TYPE;
@@ -153,7 +153,7 @@ pub fn step_at(b: &[u8], layout: Layout, at: usize) -> Next
 
 // Walks over the chunks of b up to the last of count frames; no frame is opened.
 pub fn walk_frames(b: &[u8], count: usize) -> Extent
-    ensures { result ≡ extent b.now count HEADER_BYTES }
+    ensures { result ≡ extent b.now count header_bytes }
 {
     let mut at = HEADER_BYTES;
     let mut left = count;
@@ -174,7 +174,7 @@ pub fn walk_frames(b: &[u8], count: usize) -> Extent
 // Where frame k of b lies, the first being frame 1.
 pub fn frame_at(b: &[u8], k: usize) -> Next
     requires { 1 ≤ k }
-    ensures { result ≡ frame_at b.now k HEADER_BYTES }
+    ensures { result ≡ frame_at b.now k header_bytes }
 {
     let mut at = HEADER_BYTES;
     let mut left = k;

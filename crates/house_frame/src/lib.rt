@@ -6,7 +6,7 @@ ghost use Rattle.std.specs.Prelude.{◌≡◌, false, ◌+◌, ◌<◌, ◌≤�
 ghost use mathlib.Core.List.{flatten};
 ghost use Rattle.words.specs.Words.{same};
 ghost use Rattle.words.specs.Writes.{put};
-ghost use Rattle.format.specs.Format.{FLI_BRUN};
+ghost use Rattle.format.specs.Format.{FLI_BRUN as fli_brun};
 ghost use Rattle.answer.specs.Answer.{told_written};
 ghost use Rattle.state.specs.State.{state, Picture, Exact};
 ghost use Rattle.state.specs.Outcome.{lent_bytes, leaves, fitted};
@@ -142,7 +142,7 @@ fn write_picture(
 )
     requires { Picture size.width size.height previous.now × Picture size.width size.height next.now
         × (plan ≡ picture_plan size previous.now next.now)
-        × (plan.kind ≡ FLI_BRUN → rows.now ≡ row_types size.width size.height next.now)
+        × (plan.kind ≡ fli_brun → rows.now ≡ row_types size.width size.height next.now)
         × (at + plan.size ≤ length out.old) }
     ensures { out.new
         ≡ put out.old at (flatten (changed previous.now next.now (picture_chunk size previous.now next.now))) }
@@ -175,7 +175,7 @@ fn write_planned(
     requires { Exact size (state previous_picture.now previous_palette.now) × Exact size (state next_picture.now next_palette.now)
         × (colours ≡ colour_plan previous_palette.now next_palette.now)
         × (picture ≡ picture_plan size previous_picture.now next_picture.now)
-        × (picture.kind ≡ FLI_BRUN → rows.now ≡ row_types size.width size.height next_picture.now) }
+        × (picture.kind ≡ fli_brun → rows.now ≡ row_types size.width size.height next_picture.now) }
     ensures { leaves (told_written result) (lent_bytes out.new)
         ≡ fitted (house_frame size (state previous_picture.now previous_palette.now) (state next_picture.now next_palette.now)) out.old }
 {

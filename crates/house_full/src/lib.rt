@@ -7,7 +7,7 @@ ghost use Rattle.words.specs.Writes.{put};
 ghost use Rattle.format.specs.Limits.{Wide};
 ghost use Rattle.state.specs.State.{Picture};
 ghost use Rattle.house_full.specs.Edges.{edges, all_edges};
-ghost use Rattle.format.specs.Format.{FLI_BRUN};
+ghost use Rattle.format.specs.Format.{FLI_BRUN as fli_brun};
 ghost use Rattle.house_rows.specs.Search.{types};
 ghost use Rattle.house_full.specs.Full.{brun_row, brun_body, all_zero, full_chunk, full_kind};
 ghost use Rattle.house_full.specs.Plan.{row_types, full_plan};
@@ -175,7 +175,7 @@ pub fn write_full(
 )
     requires { Picture width height picture.now
         × (kind ≡ full_kind width height picture.now)
-        × (kind ≡ FLI_BRUN → plan.now ≡ row_types width height picture.now)
+        × (kind ≡ fli_brun → plan.now ≡ row_types width height picture.now)
         × (at + length (full_chunk width height picture.now) ≤ length out.old) }
     ensures { out.new ≡ put out.old at (full_chunk width height picture.now) }
 {

@@ -5,8 +5,8 @@ ghost use Rattle.std.specs.Prelude.{◌≡◌, ◌+◌, ◌-◌, ◌≤◌, leng
 ghost use Rattle.answer.specs.Answer.{told_written};
 ghost use Rattle.state.specs.Outcome.{lent_bytes, leaves};
 ghost use Rattle.list_text.specs.Stored.{Stored};
-ghost use Rattle.chunks.specs.Spans.{HEADER_BYTES};
-ghost use Rattle.list_chunks.specs.Listing.{head_bytes, count_at, opens, LIST_DEPTH, container_of, children_of, reel_lines, LIST_INPUT, listing, list};
+ghost use Rattle.chunks.specs.Spans.{HEADER_BYTES as header_bytes};
+ghost use Rattle.list_chunks.specs.Listing.{head_bytes, count_at, opens, LIST_DEPTH as list_depth, container_of, children_of, reel_lines, LIST_INPUT as longest_input, listing, list};
 ghost use Rattle.list_chunks.specs.Room.{Listed, Lines, list_most};
 
 use answer::{Refusal, Written};
@@ -73,7 +73,7 @@ fn list_container(
     end: usize,
     kind: usize,
 ) -> usize
-    requires { (at ≤ end) × (end ≤ length b.now) × (length b.now ≤ LIST_INPUT) × (depth ≤ LIST_DEPTH) × Lines start (end - at - 6) out.old }
+    requires { (at ≤ end) × (end ≤ length b.now) × (length b.now ≤ longest_input) × (depth ≤ list_depth) × Lines start (end - at - 6) out.old }
     ensures { Stored out.old start (container_of b.now depth at end kind) out.new result }
 {
     if depth >= LIST_DEPTH {
@@ -99,7 +99,7 @@ fn list_children(
     count: usize,
     from: usize,
 ) -> usize
-    requires { (from ≤ to) × (to ≤ length b.now) × (length b.now ≤ LIST_INPUT) × (depth ≤ LIST_DEPTH) × Lines start (to - from) out.old }
+    requires { (from ≤ to) × (to ≤ length b.now) × (length b.now ≤ longest_input) × (depth ≤ list_depth) × Lines start (to - from) out.old }
     ensures { Stored out.old start (children_of b.now depth parent to count from) out.new result }
 {
     let mut at = from;
@@ -132,7 +132,7 @@ fn list_reel(
     frames: usize,
     end: usize,
 ) -> usize
-    requires { Listed b.now width height frames × (HEADER_BYTES ≤ end) × (end ≤ length b.now) × (list_most ≤ length out.old) }
+    requires { Listed b.now width height frames × (header_bytes ≤ end) × (end ≤ length b.now) × (list_most ≤ length out.old) }
     ensures { Stored out.old 0 (reel_lines b.now width height frames end) out.new result }
 {
     let n = list_text::put_head(out, width, height, frames);

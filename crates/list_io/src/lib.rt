@@ -3,7 +3,7 @@
 
 ghost use Rattle.std.specs.Prelude.{◌≡◌, suc, ◌≤◌, length, IfOk};
 ghost use Rattle.words.specs.Words.{Bytes};
-ghost use Rattle.list_chunks.specs.Listing.{LIST_INPUT};
+ghost use Rattle.list_chunks.specs.Listing.{LIST_INPUT as longest_input};
 ghost use Rattle.list_chunks.specs.Room.{list_most};
 ghost use Rattle.list_io.specs.Printed.{Printed};
 
@@ -16,7 +16,7 @@ const RETRIES: usize = 64;
 
 // Room for an input and one byte more, by which an input that is too long is told.
 fn input_room() -> [u8; LIST_INPUT + 1]
-    ensures { suc LIST_INPUT ≡ length result }
+    ensures { suc longest_input ≡ length result }
 {
     [0; LIST_INPUT + 1]
 }

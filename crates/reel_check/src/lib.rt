@@ -7,7 +7,7 @@ ghost use Rattle.answer.specs.Answer.{told};
 ghost use Rattle.state.specs.State.{state, Exact};
 ghost use Rattle.state.specs.Outcome.{lent_pairs, leaves};
 ghost use Rattle.chunks.specs.declared.Layout.TheVariants.{Loose};
-ghost use Rattle.chunks.specs.Spans.{HEADER_BYTES};
+ghost use Rattle.chunks.specs.Spans.{HEADER_BYTES as header_bytes};
 ghost use Rattle.reel_play.specs.Play.{play_all};
 ghost use Rattle.reel_check.specs.Check.{ring_answer, check_reel};
 
@@ -38,7 +38,7 @@ fn check_frames(
     count: usize,
     size: Size,
 ) -> Answer
-    requires { (HEADER_BYTES ≤ length b.now) × Exact size (state picture.old palette.old) × Exact size (state picture2.old palette2.old) }
+    requires { (header_bytes ≤ length b.now) × Exact size (state picture.old palette.old) × Exact size (state picture2.old palette2.old) }
     ensures answer { result ≡ ring_answer (play_all Loose count size b.now) }
     ensures first { state picture.new palette.new ≡ (play_all Loose count size b.now).last }
     ensures second { state picture2.new palette2.new ≡ (play_all Loose count size b.now).one }

@@ -6,7 +6,7 @@ ghost use Rattle.format.specs.Limits.{max_frames};
 ghost use Rattle.answer.specs.Answer.{told};
 ghost use Rattle.state.specs.State.{state, Exact};
 ghost use Rattle.state.specs.Outcome.{lent_bytes, lent_bytes_pairs, leaves};
-ghost use Rattle.chunks.specs.Spans.{HEADER_BYTES};
+ghost use Rattle.chunks.specs.Spans.{HEADER_BYTES as header_bytes};
 ghost use Rattle.house_frame.specs.House.{house_frame};
 ghost use Rattle.reel_build.specs.Record.{builds};
 ghost use Rattle.reel_close.specs.Closing.{own_playing, ring_written, close_frames, close_ok, close_reel};
@@ -27,7 +27,7 @@ fn put_ring(
     one_picture: &[u8],
     one_palette: &[u8],
 ) -> Built
-    requires { (HEADER_BYTES + 4 ≤ reel.end) × (reel.end ≤ length bytes.old) × (reel.frames ≤ max_frames)
+    requires { (header_bytes + 4 ≤ reel.end) × (reel.end ≤ length bytes.old) × (reel.frames ≤ max_frames)
         × Exact reel.size (state last_picture.now last_palette.now) × Exact reel.size (state one_picture.now one_palette.now) }
     ensures { builds result.reel (leaves (told result.answer) (lent_bytes bytes.new))
         ≡ ring_written reel (house_frame reel.size (state last_picture.now last_palette.now) (state one_picture.now one_palette.now)) bytes.old }

@@ -4,7 +4,7 @@
 
 ghost use Rattle.std.specs.Prelude.{◌≡◌, ◌+◌, ◌<◌, ◌≤◌, length};
 ghost use Rattle.format.specs.Limits.{max_frames};
-ghost use Rattle.chunks.specs.Spans.{HEADER_BYTES};
+ghost use Rattle.chunks.specs.Spans.{HEADER_BYTES as header_bytes};
 ghost use Rattle.reel_header.specs.Head.{magic_ok, format_of, form_ok, delay_at, size_at, head_of};
 ghost use Rattle.reel_header.specs.Written.{aspect, blank_header, opened, opened_fli, second_at, flagged, closed_header};
 
@@ -117,7 +117,7 @@ fn form_ok(format: Format, depth: usize, frames: usize, flags: usize) -> bool
 
 // The delay from frame to frame.
 fn delay_at(format: Format, b: &[u8]) -> Milliseconds
-    requires { HEADER_BYTES ≤ length b.now }
+    requires { header_bytes ≤ length b.now }
     ensures { result ≡ delay_at format b.now }
 {
     match format {
@@ -128,7 +128,7 @@ fn delay_at(format: Format, b: &[u8]) -> Milliseconds
 
 // The size of the pictures, and the format.
 fn size_at(b: &[u8]) -> Size
-    requires { HEADER_BYTES ≤ length b.now }
+    requires { header_bytes ≤ length b.now }
     ensures { result ≡ size_at b.now }
 {
     Size {
@@ -193,7 +193,7 @@ fn aspect_of(width: usize, height: usize, classic: usize) -> usize
 
 // The fields that both formats have before the close.
 fn put_common(out: &mut [u8], magic: usize, width: usize, height: usize)
-    requires { (length out.old ≡ HEADER_BYTES) × (magic < 65536) × (width < 65536) × (height < 65536) }
+    requires { (length out.old ≡ header_bytes) × (magic < 65536) × (width < 65536) × (height < 65536) }
     ensures { out.new ≡ blank_header magic width height }
 {
     words::fill(out, 0);
@@ -205,7 +205,7 @@ fn put_common(out: &mut [u8], magic: usize, width: usize, height: usize)
 
 // The header of an FLC that is not closed yet.
 pub fn write_header(out: &mut [u8], width: usize, height: usize, speed: Milliseconds)
-    requires { (length out.old ≡ HEADER_BYTES) × (width < 65536) × (height < 65536) }
+    requires { (length out.old ≡ header_bytes) × (width < 65536) × (height < 65536) }
     ensures { out.new ≡ opened width height speed }
 {
     put_common(out, format::FLC_MAGIC, width, height);
@@ -218,7 +218,7 @@ pub fn write_header(out: &mut [u8], width: usize, height: usize, speed: Millisec
 
 // The header of an FLI that is not closed yet.
 pub fn write_fli_header(out: &mut [u8], width: usize, height: usize, speed: Jiffies)
-    requires { (length out.old ≡ HEADER_BYTES) × (width < 65536) × (height < 65536) }
+    requires { (length out.old ≡ header_bytes) × (width < 65536) × (height < 65536) }
     ensures { out.new ≡ opened_fli width height speed }
 {
     put_common(out, format::FLI_MAGIC, width, height);
@@ -227,7 +227,7 @@ pub fn write_fli_header(out: &mut [u8], width: usize, height: usize, speed: Jiff
 
 // Where frame 1 ends.
 pub fn second_at(bytes: &[u8]) -> usize
-    requires { HEADER_BYTES + 4 ≤ length bytes.now }
+    requires { header_bytes + 4 ≤ length bytes.now }
     ensures { result ≡ second_at bytes.now }
 {
     HEADER_BYTES + words::u32_at(bytes, HEADER_BYTES)
@@ -235,7 +235,7 @@ pub fn second_at(bytes: &[u8]) -> usize
 
 // Sets the header fields that a close of an FLC sets beside the size and the frames.
 fn close_flc(bytes: &mut [u8], second: usize)
-    requires { HEADER_BYTES ≤ length bytes.old }
+    requires { header_bytes ≤ length bytes.old }
     ensures { bytes.new ≡ flagged second bytes.old }
 {
     words::put_u16(bytes, FLAGS_AT, FINISHED);
@@ -245,7 +245,7 @@ fn close_flc(bytes: &mut [u8], second: usize)
 
 // Sets the header fields that a close sets.
 pub fn close_header(bytes: &mut [u8], format: Format, size: usize, frames: usize, second: usize)
-    requires { (HEADER_BYTES ≤ length bytes.old) × (frames ≤ max_frames) }
+    requires { (header_bytes ≤ length bytes.old) × (frames ≤ max_frames) }
     ensures { bytes.new ≡ closed_header format size frames second bytes.old }
 {
     words::put_u32(bytes, SIZE_AT, size);

@@ -70,7 +70,7 @@ module _ (z : Size) (b : List ℕ) where
             next_is = omega (arith, r.next_is, i.end_is, length-append i.bytes r.bytes);
           })
 
-module _ (speed : ℕ) (r : Reel) (b : List ℕ) (bytes-in : Bytes b) (header_in_lem : take HEADER_BYTES b ≡ opened_in r.size.format r.size.width r.size.height speed) where
+module _ (speed : ℕ) (r : Reel) (b : List ℕ) (bytes-in : Bytes b) (header_in : take HEADER_BYTES b ≡ opened_in r.size.format r.size.width r.size.height speed) where
   -- what the reel's bytes show
   record Found : Type 0 where
     pub first : State
@@ -100,7 +100,7 @@ module _ (speed : ℕ) (r : Reel) (b : List ℕ) (bytes-in : Bytes b) (header_in
           let at : r.end ≡ HEADER_BYTES + length own-bytes = omega (arith, a.next_is, i.0) in
           let none_left : length (drop to c) ≡ 0 = omega arith in
           let frames-are : drop HEADER_BYTES c ≡ own-bytes = a.there ∙ ap (λ (y : List ℕ). own-bytes ++ y) (empty (drop to c) none_left) ∙ append-nil own-bytes in
-          let front : take HEADER_BYTES c ≡ opened_in z.format z.width z.height speed = take-take HEADER_BYTES r.end b i.0 ∙ header_in_lem in
+          let front : take HEADER_BYTES c ≡ opened_in z.format z.width z.height speed = take-take HEADER_BYTES r.end b i.0 ∙ header_in in
           record {
             first = x.one;
             rest = a.rest;

@@ -4,7 +4,7 @@
 ghost use Rattle.std.specs.Prelude.{◌≡◌, ◌≤◌, length};
 ghost use Rattle.format.specs.Limits.{area};
 ghost use Rattle.state.specs.State.{blank, state, Exact};
-ghost use Rattle.chunks.specs.Spans.{HEADER_BYTES};
+ghost use Rattle.chunks.specs.Spans.{HEADER_BYTES as header_bytes};
 ghost use Rattle.reel_play.specs.Play.{ran, one_frame, frames, shown, play_all};
 
 use answer::{Answer, Refusal};
@@ -98,8 +98,8 @@ fn play_first(
     layout: Layout,
     size: Size,
 ) -> Ran
-    requires { (HEADER_BYTES ≤ length b.now) × Exact size (state picture.old palette.old) × Exact size (state picture2.old palette2.old) }
-    ensures first { ran result (state picture.new palette.new) ≡ one_frame layout size b.now HEADER_BYTES (blank (area size)) }
+    requires { (header_bytes ≤ length b.now) × Exact size (state picture.old palette.old) × Exact size (state picture2.old palette2.old) }
+    ensures first { ran result (state picture.new palette.new) ≡ one_frame layout size b.now header_bytes (blank (area size)) }
     ensures picture { picture2.new ≡ picture.new }
     ensures palette { palette2.new ≡ palette.new }
 {
@@ -121,7 +121,7 @@ pub fn play_all(
     more: usize,
     size: Size,
 ) -> Ran
-    requires { (HEADER_BYTES ≤ length b.now) × Exact size (state picture.old palette.old) × Exact size (state picture2.old palette2.old) }
+    requires { (header_bytes ≤ length b.now) × Exact size (state picture.old palette.old) × Exact size (state picture2.old palette2.old) }
     ensures { shown result (state picture.new palette.new) (state picture2.new palette2.new) ≡ play_all layout more size b.now }
 {
     match play_first(picture, palette, picture2, palette2, b, layout, size) {

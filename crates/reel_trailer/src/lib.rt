@@ -6,7 +6,7 @@ ghost use Rattle.words.specs.Words.{same};
 ghost use Rattle.words.specs.Writes.{put};
 ghost use Rattle.answer.specs.Answer.{told, told_written};
 ghost use Rattle.state.specs.Outcome.{lent_bytes, leaves};
-ghost use Rattle.chunks.specs.Spans.{HEADER_BYTES, top_frames};
+ghost use Rattle.chunks.specs.Spans.{HEADER_BYTES as header_bytes, top_frames};
 ghost use Rattle.reel_trailer.specs.Trailer.{index, trailer_of, check_trailer, write_trailer};
 ghost use Rattle.reel_trailer.specs.Room.{Walked, padded};
 
@@ -20,8 +20,8 @@ const TRAILER_MOST: usize = 4 * (MAX_FRAMES + 1) + 8;
 
 // Stores the offset of each of count frames of b.
 fn put_index(out: &mut [u8], b: &[u8], count: usize)
-    requires { (HEADER_BYTES ≤ length b.now) × (4 * count ≤ length out.old) }
-    ensures { out.new ≡ put out.old 0 (index (top_frames b.now count HEADER_BYTES).offsets) }
+    requires { (header_bytes ≤ length b.now) × (4 * count ≤ length out.old) }
+    ensures { out.new ≡ put out.old 0 (index (top_frames b.now count header_bytes).offsets) }
 {
     let mut at = HEADER_BYTES;
     let mut to = 0;
@@ -51,7 +51,7 @@ fn zeros() -> [u8; TRAILER_MOST]
 // The index of count frames of b and the trailer, at the front of a buffer of zeros.
 fn trailer_of(b: &[u8], count: usize) -> [u8; TRAILER_MOST]
     requires { Walked b.now count }
-    ensures { result ≡ padded (trailer_of (top_frames b.now count HEADER_BYTES).offsets) }
+    ensures { result ≡ padded (trailer_of (top_frames b.now count header_bytes).offsets) }
 {
     let mut out = zeros();
     let at = 4 * count;
@@ -65,7 +65,7 @@ fn trailer_of(b: &[u8], count: usize) -> [u8; TRAILER_MOST]
 // Whether rest is the index of count frames of b and the trailer.
 fn same_trailer(rest: &[u8], b: &[u8], count: usize) -> bool
     requires { Walked b.now count }
-    ensures { result ≡ same rest.now (trailer_of (top_frames b.now count HEADER_BYTES).offsets) }
+    ensures { result ≡ same rest.now (trailer_of (top_frames b.now count header_bytes).offsets) }
 {
     let n = 4 * count + 8;
     if rest.len() != n {
