@@ -38,7 +38,7 @@ returns-then-next-end c =
     let s = state p.new.picture p.new.palette in
     let t = state p.new.picture2 p.new.palette2 in
     own_told a.reel a.bytes.now (shown p.result s t) (own_played a.reel a.bytes.now (sym c.end_ok.ensures ∙ c.if-not-end_ok.false) (a.reel.end - 0) (omega arith) _ p.ensures)
-    _ (refused_keeps _ _ _ _ c.refused-then-next-end.ensures (lent_bytes a.bytes.now) ∙ frames_early a.reel a.bytes.now p.result s t _ _ c.in-To.is c.if-next-end.true)
+    _ (refused_keeps _ _ _ _ c.refused-then-next-end.ensures (lent_bytes a.bytes.now) ∙ frames_early a.reel a.bytes.now p.result s t _ _ c.in-To.is (omega (arith, (end_in a.reel.end (length a.bytes.now) (sym c.end_ok.ensures ∙ c.if-not-end_ok.false)).0)))
 
 pub put_ring-requires : goal.put_ring-requires
 put_ring-requires c =
