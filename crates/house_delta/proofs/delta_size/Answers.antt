@@ -1,7 +1,6 @@
 -- `delta_size` meets its contract: in each format the body is that of its delta.
 use mathlib.Core.Path.{sym, ap, ◌∙◌}
 use native.Mathlib.Omega.{arith}
-use borrow.Author.Rules.{rules}
 use lib.ListN.{length}
 use Rattle.house_delta.proofs.Laws.{body_by}
 use Rattle.house_delta.proofs.delta_size.Goals as goal

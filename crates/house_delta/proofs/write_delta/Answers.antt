@@ -1,6 +1,5 @@
 -- `write_delta` meets its contract: in each format the body is that of its delta.
 use mathlib.Core.Path.{sym, ap, ◌∙◌}
-use borrow.Author.Rules.{rules}
 use lib.ListN.{length}
 use Rattle.words.specs.Writes.{put}
 use Rattle.house_delta.proofs.Laws.{body_by, asked}
