@@ -55,12 +55,14 @@ ring_follows_ring number frames h =
 
 -- stepped
 
-pub step_by : (frames speed : ℕ) (s : Stands) (reading : ℕ) (d : Due) → d ≡ due speed s.last reading → stepped_by frames speed s reading d ≡ stepped frames speed s reading
+pub step_by : (frames speed : ℕ) (s : Stands) (reading : ℕ) (d : Due) → d ≡ due speed s.last reading → stepped_by frames speed s reading d
+    ≡ stepped frames speed s reading
 unfolding stepped
 step_by frames speed s reading d e = ap (stepped_by frames speed s reading) e
 
 -- the number stays within 1 to frames + 1's bound
-pub step_small : (frames speed : ℕ) (s : Stands) (reading : ℕ) → 1 ≤ frames → frames ≤ max_frames → s.number ≤ suc frames → (stepped frames speed s reading).stands.number ≤ suc frames
+pub step_small : (frames speed : ℕ) (s : Stands) (reading : ℕ) → 1 ≤ frames → frames ≤ max_frames → s.number ≤ suc frames
+    → (stepped frames speed s reading).stands.number ≤ suc frames
 step_small frames speed s reading h k i =
     subst (λ (t : Turn). t.stands.number ≤ suc frames) (step_by frames speed s reading (due speed s.last reading) refl) (by (due speed s.last reading))
   where
@@ -68,7 +70,8 @@ step_small frames speed s reading h k i =
     by Nothing = i
     by SetBack = i
     by Frame =
-        by_test (λ t. cond t (suc s.number) 2 % 2 ^ 64 ≤ suc frames) (leb s.number frames) (λ e. omega (arith, leb-true s.number frames e)) (λ e. omega (arith, leb-false s.number frames e))
+        by_test (λ t. cond t (suc s.number) 2 % 2 ^ 64 ≤ suc frames) (leb s.number frames) (λ e. omega (arith, leb-true s.number frames e))
+        (λ e. omega (arith, leb-false s.number frames e))
 
 -- replayed
 

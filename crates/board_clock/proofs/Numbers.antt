@@ -26,7 +26,8 @@ module _ (out₀ readings : List ℕ) (frames speed start : ℕ) where
     -- one reading more, which came to t
     module _ (h : i < length readings) (t : Turn) (e : t ≡ stepped frames speed (stands number last) (get_or readings i 0)) where
       pub stored_small : t.stands.number ≤ suc frames
-      stored_small = subst (λ (x : Turn). x.stands.number ≤ suc frames) (sym e) (step_small frames speed (stands number last) (get_or readings i 0) v.some v.most v.small)
+      stored_small = subst (λ (x : Turn). x.stands.number ≤ suc frames) (sym e)
+          (step_small frames speed (stands number last) (get_or readings i 0) v.some v.most v.small)
 
       pub storing_again : (o : List ℕ) → o ≡ set out i t.stands.number → (j : ℕ) → j ≡ i + 1
           → Storing out₀ readings frames speed start o t.stands.number t.stands.last j

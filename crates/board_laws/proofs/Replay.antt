@@ -66,5 +66,6 @@ module _ (b : List ℕ) (now : ℕ) (one two : State) (e : (start_player b now o
         reel = reel;
         words = λ rs out. sym (replay_fitted reel.speed.0 reel.count now rs out i.some_frames i.few_frames)
             ∙ ap (λ (ns : List ℕ). fitted ns out)
-            (sym (live_numbers b rs (started b now one two) ((player_shows b now one two e).never_refused rs) ∙ ap (λ (p : Player). numbers p.frames p.speed.0 (clock_of p) rs) p));
+            (sym (live_numbers b rs (started b now one two) ((player_shows b now one two e).never_refused rs)
+            ∙ ap (λ (p : Player). numbers p.frames p.speed.0 (clock_of p) rs) p));
       }

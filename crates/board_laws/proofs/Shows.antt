@@ -75,7 +75,8 @@ module _ (z : Size) (b : List ℕ) where
   -- from offset at on they lead from s to each of the states
   pub data Plays : ℕ → State → List State → Type 0 where
     none : {at : ℕ} {s : State} → Plays at s []
-    next : {at : ℕ} {s : State} {ts : List State} (from end : ℕ) (t : State) → one_frame Loose z b at s ≡ ran (To from end) t → Exact z t → end ≤ length b → Plays end t ts
+    next : {at : ℕ} {s : State} {ts : List State} (from end : ℕ) (t : State) → one_frame Loose z b at s ≡ ran (To from end) t → Exact z t
+        → end ≤ length b → Plays end t ts
         → Plays at s (t ∷ ts)
 
 module _ (z : Size) (ok : size_fits z ≡ true) where
@@ -90,7 +91,8 @@ module _ (z : Size) (ok : size_fits z ≡ true) where
       by : (a : Answer) → (frame z f).answer ≡ a → WasRead f s t
       by Done d = record { accepted = d; gave = ap (λ (o : Outcome). o.memory.first) (sym (reads_played z ok f s i d) ∙ e) }
       by (Refused r p) d =
-          let q = ap (λ (o : Outcome). o.said) (sym (read_by_lem f z s ok (enough_is (area z) s (omega (arith, i.picture.pixels)) (omega (arith, i.colours))) (Refused r p) d) ∙ e) in
+          let q = ap (λ (o : Outcome). o.said)
+          (sym (read_by_lem f z s ok (enough_is (area z) s (omega (arith, i.picture.pixels)) (omega (arith, i.colours))) (Refused r p) d) ∙ e) in
           let k : ◌≡◌ {A = ℕ} 0 1 = cc in absurd (omega arith)
 
   -- frames that were read in the reel are played in all the bytes
@@ -114,7 +116,8 @@ module _ (z : Size) (lent s : State) (i : Exact z s) where
   front_of = ap₂ state (take_at s.picture (drop (area z) lent.picture) (area z) i.picture.pixels) (take_at s.palette (drop 768 lent.palette) 768 i.colours)
 
   refilled_again : (t : State) → refilled (area z) t (refilled (area z) s lent) ≡ refilled (area z) t lent
-  refilled_again t = ap₂ (λ (p q : List ℕ). state (t.picture ++ p) (t.palette ++ q)) (behind s.picture lent.picture (area z) i.picture.pixels) (behind s.palette lent.palette 768 i.colours)
+  refilled_again t = ap₂ (λ (p q : List ℕ). state (t.picture ++ p) (t.palette ++ q)) (behind s.picture lent.picture (area z) i.picture.pixels)
+      (behind s.palette lent.palette 768 i.colours)
     where
       behind : (p q : List ℕ) (n : ℕ) → length p ≡ n → drop n (p ++ drop n q) ≡ drop n q
       behind p q n e = ap (λ (k : ℕ). drop k (p ++ drop n q)) (sym e) ∙ drop-append_seam p (drop n q)
@@ -146,7 +149,8 @@ module _ {b : List ℕ} (reel : LeadsBack b) where
 
   -- the frames behind frame k
   behind_state : (k : ℕ) → k ≤ count → drop k (all_states reel) ≡ state_of reel (suc k) ∷ drop (suc k) (all_states reel)
-  behind_state k h = drop-cons (all_states reel) k reel.one (omega (arith, long_all)) ∙ ap (λ (t : State). t ∷ drop (suc k) (all_states reel)) (sym (state_at k))
+  behind_state k h = drop-cons (all_states reel) k reel.one (omega (arith, long_all))
+      ∙ ap (λ (t : State). t ∷ drop (suc k) (all_states reel)) (sym (state_at k))
 
   -- A player that stands at frame k of the lap (the ring at frame 1), and the pair that shows it; first: the pair that was lent.
   pub record Standing (first : State) (x : Playing) : Type 0 where
@@ -211,7 +215,8 @@ module _ {b : List ℕ} (reel : LeadsBack b) where
         let t = state_of reel (suc v.k) in
         let room : enough (area z) x.pair ≡ true = ap (enough (area z)) v.pair_is ∙ room_of z first (state_of reel v.k) v.exact in
         let was : front (area z) x.pair ≡ state_of reel v.k = ap (front (area z)) v.pair_is ∙ front_of z first (state_of reel v.k) v.exact in
-        sym (draw_one p b x.pair z v.size_is inside.sized room (record_fits p b v.within v.least_number (omega (arith, v.most_number, v.frames_is))) (area z) refl (To next_one.from next_one.end) t
+        sym (draw_one p b x.pair z v.size_is inside.sized room (record_fits p b v.within v.least_number (omega (arith, v.most_number, v.frames_is)))
+        (area z) refl (To next_one.from next_one.end) t
         (sym (ap (one_frame Loose z b p.place) was ∙ next_one.frame_is)))
         ∙ ap (ran (To next_one.from next_one.end)) (ap (refilled (area z) t) v.pair_is ∙ refilled_again z first (state_of reel v.k) v.exact t)
 
@@ -325,7 +330,8 @@ module _ {b : List ℕ} (reel : LeadsBack b) where
               event = DRAWN;
               said = ap (λ (o : PlayerOutcome). o.left.said) e;
               stands =
-                  shows _ (e ∙ ap₂ (λ (n : ℕ) (u : State). plays (standing p (drawn_then p) (place_after p n)) (leaves (done (DRAWN ∷ [])) (lent_pair u))) ends (ap (λ (y : Progress). y.after) q)) drawn_standing;
+                  shows _ (e ∙ ap₂ (λ (n : ℕ) (u : State). plays (standing p (drawn_then p) (place_after p n))
+                  (leaves (done (DRAWN ∷ [])) (lent_pair u))) ends (ap (λ (y : Progress). y.after) q)) drawn_standing;
             }
         by (ticks.refused f place t d e) = let q = ap (λ (y : Progress). y.result) (sym d ∙ draws) in let i : ◌≡◌ {A = ℕ} 0 1 = cc in absurd (omega arith)
 
@@ -385,7 +391,8 @@ check_says b first second v e = by (head_of Both b) e
     by (head.Fault r) q = answered (Refused r 0) q
     by (head.Reel z count size speed) q =
         let x = play_all Loose count z (take size b) in
-        cond_holds (λ (o : Outcome). o.said ≡ done v → v ≡ []) (enough (area z) first && enough (area z) second) (checked_by (area z) x first second) (refuse ShortSlice 0 (lent_pairs first second))
+        cond_holds (λ (o : Outcome). o.said ≡ done v → v ≡ []) (enough (area z) first && enough (area z) second) (checked_by (area z) x first second)
+        (refuse ShortSlice 0 (lent_pairs first second))
         (answered (ring_answer x)) (answered (Refused ShortSlice 0)) q
 
 module _ (b : List ℕ) (now : ℕ) (first second : State) (e : (start_player b now first second).left.said ≡ done []) where
@@ -394,7 +401,8 @@ module _ (b : List ℕ) (now : ℕ) (first second : State) (e : (start_player b 
   unfolding start_player
   start_checked = by (check_reel b first second).said refl e
     where
-      by : (s : Said) → (check_reel b first second).said ≡ s → (started_by b now first (check_reel b first second) s).left.said ≡ done [] → (check_reel b first second).said ≡ done []
+      by : (s : Said) → (check_reel b first second).said ≡ s → (started_by b now first (check_reel b first second) s).left.said ≡ done []
+          → (check_reel b first second).said ≡ done []
       by (done v) q f = q ∙ ap done (check_says b first second v q)
       by (refused n place) q f = f
 

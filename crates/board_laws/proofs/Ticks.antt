@@ -39,14 +39,19 @@ module _ (p : Player) (b : List ℕ) (r : ℕ) (lent : State) where
       by : (d : Due) → d ≡ due p.speed.0 p.last r → TickIs (tick p b r lent) (stepped p.frames p.speed.0 (clock_of p) r).stands
       by d e = go d (step_by p.frames p.speed.0 (clock_of p) r d e)
         where
-          drawing : stepped_by p.frames p.speed.0 (clock_of p) r Frame ≡ stepped p.frames p.speed.0 (clock_of p) r → (x : Ran) (t : State) → draw p b lent ≡ ran x t
+          drawing : stepped_by p.frames p.speed.0 (clock_of p) r Frame ≡ stepped p.frames p.speed.0 (clock_of p) r → (x : Ran) (t : State)
+              → draw p b lent ≡ ran x t
               → TickIs (tick p b r lent) (stepped p.frames p.speed.0 (clock_of p) r).stands
           drawing q (Stopped f place) t i =
-              refused f place t i (sym (tick_by_lem p b r lent (stepped_by p.frames p.speed.0 (clock_of p) r Frame) q Frame refl) ∙ ap (λ (y : Progress). drawn_by p (drawn_then p) lent y.result y.after) i)
-          drawing q (To last end) t i = drawn last end t i (sym (tick_drawn p b r lent (stepped_by p.frames p.speed.0 (clock_of p) r Frame) q refl last end t (sym i))) (sym (ap (λ (t : Turn). t.stands) q))
+              refused f place t i (sym (tick_by_lem p b r lent (stepped_by p.frames p.speed.0 (clock_of p) r Frame) q Frame refl)
+              ∙ ap (λ (y : Progress). drawn_by p (drawn_then p) lent y.result y.after) i)
+          drawing q (To last end) t i = drawn last end t i
+              (sym (tick_drawn p b r lent (stepped_by p.frames p.speed.0 (clock_of p) r Frame) q refl last end t (sym i))) (sym (ap (λ (t : Turn). t.stands) q))
 
           go : (d : Due) → stepped_by p.frames p.speed.0 (clock_of p) r d ≡ stepped p.frames p.speed.0 (clock_of p) r
               → TickIs (tick p b r lent) (stepped p.frames p.speed.0 (clock_of p) r).stands
-          go Nothing q = idle (sym (tick_by_lem p b r lent (stepped_by p.frames p.speed.0 (clock_of p) r Nothing) q Nothing refl)) (sym (ap (λ (t : Turn). t.stands) q))
-          go SetBack q = back (sym (tick_by_lem p b r lent (stepped_by p.frames p.speed.0 (clock_of p) r SetBack) q SetBack refl)) (sym (ap (λ (t : Turn). t.stands) q))
+          go Nothing q = idle (sym (tick_by_lem p b r lent (stepped_by p.frames p.speed.0 (clock_of p) r Nothing) q Nothing refl))
+              (sym (ap (λ (t : Turn). t.stands) q))
+          go SetBack q = back (sym (tick_by_lem p b r lent (stepped_by p.frames p.speed.0 (clock_of p) r SetBack) q SetBack refl))
+              (sym (ap (λ (t : Turn). t.stands) q))
           go Frame q = drawing q (draw p b lent).result (draw p b lent).after refl

@@ -93,7 +93,8 @@ module _ (p : Player) (b : List ℕ) where
               let d : drawn_into (area z) lent x.result x.after ≡ draw_in z = rw (ok, room, e) in
               ap (λ (n : ℕ). ran r (refilled n s lent)) k ∙ into r s g ∙ ap (λ (y : Progress). drawn_into (area z) lent y.result y.after) g ∙ d ∙ draw_in_lem
             where
-              into : (r : Ran) (s : State) → ran r s ≡ one_frame Loose z b p.place (front (area z) lent) → ran r (refilled (area z) s lent) ≡ drawn_into (area z) lent r s
+              into : (r : Ran) (s : State) → ran r s ≡ one_frame Loose z b p.place (front (area z) lent) → ran r (refilled (area z) s lent)
+                  ≡ drawn_into (area z) lent r s
               into (To last end) s f = refl
               into (Stopped r q) s f =
                   ap (λ (t : State). ran (Stopped r q) (refilled (area z) t lent)) (one_kept Loose z b p.place (front (area z) lent) r q s (sym f))
@@ -127,7 +128,8 @@ module _ (p : Player) (b : List ℕ) (reading : ℕ) (lent : State) (t : Turn) (
   tick_by_lem d e = ap (λ (x : Due). tick_by p b lent x t.stands) (sym e) ∙ ap (λ (x : Turn). tick_by p b lent x.due x.stands) is
 
   module _ (due : t.due ≡ Frame) where
-    pub tick_refused : (e : Refusal) (place : ℕ) (s : State) → ran (Stopped e place) s ≡ draw p b lent → plays p (leaves (refused (number e) place) (lent_pair s)) ≡ tick p b reading lent
+    pub tick_refused : (e : Refusal) (place : ℕ) (s : State) → ran (Stopped e place) s ≡ draw p b lent
+        → plays p (leaves (refused (number e) place) (lent_pair s)) ≡ tick p b reading lent
     tick_refused e place s q =
         ap (λ (x : State). plays p (leaves (refused (number e) place) (lent_pair x))) (draw_kept p b lent e place s (sym q))
         ∙ ap (λ (x : Progress). drawn_by p t.stands lent x.result x.after) q ∙ tick_by_lem Frame due
@@ -144,11 +146,13 @@ module _ (b : List ℕ) (reading : ℕ) where
   placed_fault e q = sym (ap (placed_at b reading) q)
 
   -- n: the length of the range up to size
-  pub placed_at_lem : (z : Size) (count size : ℕ) (speed : Milliseconds) → head_of Both b ≡ head.Reel z count size speed → (n : ℕ) → n ≡ size → (x : Next) → next_at Loose (take n b) HEADER_BYTES ≡ x
+  pub placed_at_lem : (z : Size) (count size : ℕ) (speed : Milliseconds) → head_of Both b ≡ head.Reel z count size speed → (n : ℕ) → n ≡ size
+      → (x : Next) → next_at Loose (take n b) HEADER_BYTES ≡ x
       → placed_by z count speed reading x ≡ placed b reading
   unfolding placed
   placed_at_lem z count size speed q n e x r =
-      ap (placed_by z count speed reading) (sym r) ∙ ap (λ (k : ℕ). placed_by z count speed reading (next_at Loose (take k b) HEADER_BYTES)) e ∙ sym (ap (placed_at b reading) q)
+      ap (placed_by z count speed reading) (sym r) ∙ ap (λ (k : ℕ). placed_by z count speed reading (next_at Loose (take k b) HEADER_BYTES)) e
+      ∙ sym (ap (placed_at b reading) q)
 
 -- start_player
 
@@ -160,12 +164,14 @@ shows_first b first z count size speed q =
     ap (λ (s : State). refilled (area z) s first) (all_first Loose count z (take size b)) ∙ sym (ap (λ (x : Head). showing_by b x first) q)
 
 module _ (b : List ℕ) (reading : ℕ) (first second : State) (s t : State) where
-  pub start_refused : (n place : ℕ) → leaves (refused n place) (lent_pairs s t) ≡ check_reel b first second → plays no_player (leaves (refused n place) (lent_pairs s t)) ≡ start_player b reading first second
+  pub start_refused : (n place : ℕ) → leaves (refused n place) (lent_pairs s t) ≡ check_reel b first second
+      → plays no_player (leaves (refused n place) (lent_pairs s t)) ≡ start_player b reading first second
   unfolding start_player
   start_refused n place e = ap (λ (o : Outcome). started_by b reading first o o.said) e
 
   -- both pairs hold frame 1's state then
-  pub start_done : leaves (done []) (lent_pairs s t) ≡ check_reel b first second → plays (placed b reading) (leaves (done []) (lent_pairs s t)) ≡ start_player b reading first second
+  pub start_done : leaves (done []) (lent_pairs s t) ≡ check_reel b first second → plays (placed b reading) (leaves (done []) (lent_pairs s t))
+      ≡ start_player b reading first second
   unfolding start_player
   start_done e =
       let c = check_passed b first second (ap (λ (o : Outcome). o.said) (sym e)) in

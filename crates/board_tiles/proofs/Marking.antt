@@ -109,7 +109,8 @@ module _ (P : ℕ → Bool) where
   last_under zero h some = absurd (omega arith)
   last_under (suc n) h some = go (P n) (last_under n) some
     where
-      go : (b : Bool) → (n ≤ BITS → 0 < word_of P n → count_leading_zeros BITS (word_of P n) + suc (last_of P n) ≡ BITS) → 0 < bit b * 2 ^ n + word_of P n → count_leading_zeros BITS (bit b * 2 ^ n + word_of P n) + suc (cond b n (last_of P n)) ≡ BITS
+      go : (b : Bool) → (n ≤ BITS → 0 < word_of P n → count_leading_zeros BITS (word_of P n) + suc (last_of P n) ≡ BITS)
+          → 0 < bit b * 2 ^ n + word_of P n → count_leading_zeros BITS (bit b * 2 ^ n + word_of P n) + suc (cond b n (last_of P n)) ≡ BITS
       go true rec s =
           let e = pow-suc 2 n in
           let l = word_lt P n in
@@ -141,7 +142,8 @@ first_above (suc n) (suc k) i P e h =
     let half : W / 2 ≡ word_of (λ j. P (i + suc j)) n = omega arith in
     let shift : word_of (λ j. P (i + suc j)) n ≡ word_of (λ j. P (suc i + j)) n = word_ext _ _ n (λ j. ap P (omega arith)) in
     ap (λ (x : ℕ). under x (count_trailing_zeros k (W / 2)) + i) odd ∙ ap (λ (x : ℕ). under (bit (P (i + 0))) (count_trailing_zeros k x) + i) (half ∙ shift)
-    ∙ ap (λ (x : ℕ). under (bit (P x)) (count_trailing_zeros k (word_of (λ j. P (suc i + j)) n)) + i) (add-zero i) ∙ go (P i) (first_above n k (suc i) P (omega arith) (omega arith))
+    ∙ ap (λ (x : ℕ). under (bit (P x)) (count_trailing_zeros k (word_of (λ j. P (suc i + j)) n)) + i) (add-zero i)
+    ∙ go (P i) (first_above n k (suc i) P (omega arith) (omega arith))
   where
     go : (b : Bool) → count_trailing_zeros k (word_of (λ j. P (suc i + j)) n) + suc i ≡ first_from P n (suc i)
         → under (bit b) (count_trailing_zeros k (word_of (λ j. P (suc i + j)) n)) + i ≡ cond b i (first_from P n (suc i))
@@ -169,7 +171,8 @@ module _ (w : ℕ) (small : w < 2 ^ 64) where
   none_last e = last_none (marked w) BITS (whole ∙ e)
 
   pub leading_last : 0 < w → count_leading_zeros BITS w + suc (last_of (marked w) BITS) ≡ BITS
-  leading_last h = ap (λ (x : ℕ). count_leading_zeros BITS x + suc (last_of (marked w) BITS)) (sym whole) ∙ last_under (marked w) BITS (omega arith) (omega (arith, whole))
+  leading_last h = ap (λ (x : ℕ). count_leading_zeros BITS x + suc (last_of (marked w) BITS)) (sym whole)
+      ∙ last_under (marked w) BITS (omega arith) (omega (arith, whole))
 
 -- tile_row, by its fields
 

@@ -42,7 +42,8 @@ module _ (a b c d e f g h : ℕ) where
   abbrev pub joined : ℕ
   joined = bit_or (bit_or (bit_or (bit_or (bit_or (bit_or (bit_or a b) c) d) e) f) g) h
 
-  pub eight_tell : (P : ℕ → Bool) → tells a ≡ P 0 → tells b ≡ P 1 → tells c ≡ P 2 → tells d ≡ P 3 → tells e ≡ P 4 → tells f ≡ P 5 → tells g ≡ P 6 → tells h ≡ P 7
+  pub eight_tell : (P : ℕ → Bool) → tells a ≡ P 0 → tells b ≡ P 1 → tells c ≡ P 2 → tells d ≡ P 3 → tells e ≡ P 4 → tells f ≡ P 5 → tells g ≡ P 6
+      → tells h ≡ P 7
       → tells joined ≡ any P TILE
   unfolding any
   eight_tell P ea eb ec ed ee ef eg eh =
@@ -56,19 +57,23 @@ module _ (a b c d e f g h : ℕ) where
       join m n s t i k = tells_or m n ∙ ap₂ (λ (x y : Bool). x || y) i k
 
   -- of pixels below each other
-  pub eight_below : (w : ℕ) (p q : List ℕ) (at : ℕ) → tells a ≡ changed p q at → tells b ≡ changed p q (at + w) → tells c ≡ changed p q (at + 2 * w) → tells d ≡ changed p q (at + 3 * w)
-      → tells e ≡ changed p q (at + 4 * w) → tells f ≡ changed p q (at + 5 * w) → tells g ≡ changed p q (at + 6 * w) → tells h ≡ changed p q (at + 7 * w) → tells joined ≡ below w p q TILE at
+  pub eight_below : (w : ℕ) (p q : List ℕ) (at : ℕ) → tells a ≡ changed p q at → tells b ≡ changed p q (at + w) → tells c ≡ changed p q (at + 2 * w)
+      → tells d ≡ changed p q (at + 3 * w)
+      → tells e ≡ changed p q (at + 4 * w) → tells f ≡ changed p q (at + 5 * w) → tells g ≡ changed p q (at + 6 * w) → tells h
+      ≡ changed p q (at + 7 * w) → tells joined ≡ below w p q TILE at
   eight_below w p q at ea eb ec ed ee ef eg eh =
       let zeroth : at ≡ at + 0 * w = omega arith in
       let first : at + w ≡ at + 1 * w = omega arith in
       eight_tell (λ k. changed p q (at + k * w)) (ea ∙ ap (changed p q) zeroth) (eb ∙ ap (changed p q) first) ec ed ee ef eg eh
 
   -- of columns side by side
-  pub eight_beside : (m : List ℕ) (i : ℕ) → a ≡ get_or m (TILE * i) 0 → b ≡ get_or m (TILE * i + 1) 0 → c ≡ get_or m (TILE * i + 2) 0 → d ≡ get_or m (TILE * i + 3) 0
+  pub eight_beside : (m : List ℕ) (i : ℕ) → a ≡ get_or m (TILE * i) 0 → b ≡ get_or m (TILE * i + 1) 0 → c ≡ get_or m (TILE * i + 2) 0 → d
+      ≡ get_or m (TILE * i + 3) 0
       → e ≡ get_or m (TILE * i + 4) 0 → f ≡ get_or m (TILE * i + 5) 0 → g ≡ get_or m (TILE * i + 6) 0 → h ≡ get_or m (TILE * i + 7) 0 → tells joined ≡ noted m i
   eight_beside m i ea eb ec ed ee ef eg eh =
       let zeroth : TILE * i ≡ TILE * i + 0 = omega arith in
-      eight_tell (λ k. tells (get_or m (TILE * i + k) 0)) (ap tells (ea ∙ ap (λ (k : ℕ). get_or m k 0) zeroth)) (ap tells eb) (ap tells ec) (ap tells ed) (ap tells ee) (ap tells ef) (ap tells eg) (ap tells eh)
+      eight_tell (λ k. tells (get_or m (TILE * i + k) 0)) (ap tells (ea ∙ ap (λ (k : ℕ). get_or m k 0) zeroth)) (ap tells eb) (ap tells ec)
+      (ap tells ed) (ap tells ee) (ap tells ef) (ap tells eg) (ap tells eh)
 
 -- Noted: nothing yet, a column more
 
@@ -132,7 +137,8 @@ noted_over d e f w P Q n m = record { long = m.long ∙ n.long; told = m.told; k
 
 -- one row more, which begins at index from
 pub noted_row : (d e f : List ℕ) (w : ℕ) (p q : List ℕ) (at y from : ℕ) → from ≡ at + y * w
-    → Noted d e w (λ x. below w p q y (at + x)) → Noted e f w (λ x. tells (get_or e x 0) || changed p q (from + x)) → Noted d f w (λ x. below w p q (y + 1) (at + x))
+    → Noted d e w (λ x. below w p q y (at + x)) → Noted e f w (λ x. tells (get_or e x 0) || changed p q (from + x))
+    → Noted d f w (λ x. below w p q (y + 1) (at + x))
 unfolding any
 noted_row d e f w p q at y from s n m =
     record {
@@ -158,9 +164,17 @@ pub record Rows (d p q : List ℕ) (at w high : ℕ) (e : List ℕ) (from y : �
   pub noted_so_far : Noted d e w (λ x. below w p q y (at + x))
 
 module _ (d p q : List ℕ) (at w high : ℕ) where
-  pub rows_first : (before : List ℕ) → w ≤ length before → Noted before d w (λ x. below w p q 0 (at + x)) → at + high * w ≤ length p → at + high * w ≤ length q → Rows d p q at w high d at 0
+  pub rows_first : (before : List ℕ) → w ≤ length before → Noted before d w (λ x. below w p q 0 (at + x)) → at + high * w ≤ length p
+      → at + high * w ≤ length q → Rows d p q at w high d at 0
   rows_first before r n k l =
-      record { within = omega arith; room = omega (arith, n.long); previous_long = k; next_long = l; place = omega arith; noted_so_far = noted_here before d w (λ x. below w p q 0 (at + x)) n }
+      record {
+        within = omega arith;
+        room = omega (arith, n.long);
+        previous_long = k;
+        next_long = l;
+        place = omega arith;
+        noted_so_far = noted_here before d w (λ x. below w p q 0 (at + x)) n;
+      }
 
   module _ (e : List ℕ) (from y : ℕ) (r : Rows d p q at w high e from y) where
     -- the next row lies in both pictures
@@ -170,7 +184,8 @@ module _ (d p q : List ℕ) (at w high : ℕ) where
         let s = suc-mul y w in
         omega (arith, r.place)
 
-    pub rows_again : y < high → (f : List ℕ) → Noted e f w (λ x. tells (get_or e x 0) || changed p q (from + x)) → (to : ℕ) → to ≡ from + w → Rows d p q at w high f to (y + 1)
+    pub rows_again : y < high → (f : List ℕ) → Noted e f w (λ x. tells (get_or e x 0) || changed p q (from + x)) → (to : ℕ) → to ≡ from + w
+        → Rows d p q at w high f to (y + 1)
     rows_again h f n to s =
         let m = add-mul y 1 w in
         record {
@@ -230,7 +245,8 @@ pub room_kept : (d e : List ℕ) (w : ℕ) (P : ℕ → Bool) → Room d w → N
 room_kept d e w P r n = record { long = n.long ∙ r.long; clear = λ x k. n.kept x k ∙ r.clear x k }
 
 -- the word of the tiles noted
-pub made : (w h : ℕ) (p q : List ℕ) (j : ℕ) (d e : List ℕ) (word : ℕ) → Room d w → Noted d e w (column_changed w h p q j) → word ≡ word_of (noted e) (tiles w) → Made word (tile_word w h p q j) e w
+pub made : (w h : ℕ) (p q : List ℕ) (j : ℕ) (d e : List ℕ) (word : ℕ) → Room d w → Noted d e w (column_changed w h p q j) → word
+    ≡ word_of (noted e) (tiles w) → Made word (tile_word w h p q j) e w
 made w h p q j d e word r n s =
     record {
       value = s ∙ word_ext (noted e) (tile_changed w h p q j) (tiles w) (tile_is w h p q j d e r n);

@@ -175,7 +175,8 @@ module _ (w h : ℕ) (p q : List ℕ) where
   tile_found x y e =
       any_found (λ a. any (λ b. changed_at w h p q (TILE * (x / TILE) + a) (TILE * (y / TILE) + b)) TILE) TILE (x % TILE) (omega arith)
       (any_found (λ b. changed_at w h p q (TILE * (x / TILE) + x % TILE) (TILE * (y / TILE) + b)) TILE (y % TILE) (omega arith)
-      (ap₂ (changed_at w h p q) (let f : TILE * (x / TILE) + x % TILE ≡ x = omega arith in f) (let f : TILE * (y / TILE) + y % TILE ≡ y = omega arith in f) ∙ e))
+      (ap₂ (changed_at w h p q) (let f : TILE * (x / TILE) + x % TILE ≡ x = omega arith in f)
+      (let f : TILE * (y / TILE) + y % TILE ≡ y = omega arith in f) ∙ e))
 
   -- a tile with a change has a changed pixel
   tile_where : (j i : ℕ) → tile_changed w h p q j i ≡ true → ChangedPixel w h p q j i
@@ -221,7 +222,8 @@ module _ (w h : ℕ) (p q : List ℕ) where
     unfolding places
     row_places j =
         count_ext (λ k. places (tiles w * j + k)) (tile_changed w h p q j) (tiles w)
-        (λ k i. ap₂ (tile_changed w h p q) (mul-add-div {m = tiles w} wide j k ∙ (let z = div-eq_of_lt {n = k} {m = tiles w} i in omega arith)) (mul-add-mod_self_left (tiles w) j k ∙ mod-eq_of_lt {n = k} {m = tiles w} i))
+        (λ k i. ap₂ (tile_changed w h p q) (mul-add-div {m = tiles w} wide j k ∙ (let z = div-eq_of_lt {n = k} {m = tiles w} i in omega arith))
+        (mul-add-mod_self_left (tiles w) j k ∙ mod-eq_of_lt {n = k} {m = tiles w} i))
       where
         wide : 0 < tiles w
         wide = omega (arith, size.some_wide)
@@ -230,9 +232,11 @@ module _ (w h : ℕ) (p q : List ℕ) where
     unfolding counted words_from
     counted_rows zero j = let e = ap (λ (k : ℕ). count_of places (tiles w * k)) (let f : j ≡ j + 0 = omega arith in f) in omega arith
     counted_rows (suc n) j =
-        sum (tile_row (tile_word w h p q j)).count (counted (words_from w h p q (suc j) n)) (count_of places (tiles w * j)) (count_of places (tiles w * suc j)) (count_of (tile_changed w h p q j) (tiles w)) (count_of places (tiles w * (j + suc n)))
+        sum (tile_row (tile_word w h p q j)).count (counted (words_from w h p q (suc j) n)) (count_of places (tiles w * j))
+        (count_of places (tiles w * suc j)) (count_of (tile_changed w h p q j) (tiles w)) (count_of places (tiles w * (j + suc n)))
         (counted_rows n (suc j) ∙ ap (λ (k : ℕ). count_of places (tiles w * k)) (let f : suc j + n ≡ j + suc n = omega arith in f))
-        (ap (count_of places) (mul-suc (tiles w) j) ∙ count_add places (tiles w * j) (tiles w) ∙ ap (λ (k : ℕ). count_of places (tiles w * j) + k) (row_places j))
+        (ap (count_of places) (mul-suc (tiles w) j) ∙ count_add places (tiles w * j) (tiles w)
+        ∙ ap (λ (k : ℕ). count_of places (tiles w * j) + k) (row_places j))
         (row_count j)
       where
         sum : (c r s t x u : ℕ) → r + t ≡ u → t ≡ s + x → c ≡ x → c + r + s ≡ u
@@ -241,7 +245,8 @@ module _ (w h : ℕ) (p q : List ℕ) where
     -- all of them
     counted_all : counted (tile_words w h p q) ≡ tiles_changed w h p q
     unfolding tiles_changed places count_of
-    counted_all = none (counted (tile_words w h p q)) (count_of places (tiles w * 0)) _ (ap (count_of places) (mul-zero (tiles w))) (counted_rows (tiles h) 0) ∙ ap (λ (k : ℕ). count_of places (tiles w * k)) (let e : 0 + tiles h ≡ tiles h = omega arith in e)
+    counted_all = none (counted (tile_words w h p q)) (count_of places (tiles w * 0)) _ (ap (count_of places) (mul-zero (tiles w)))
+        (counted_rows (tiles h) 0) ∙ ap (λ (k : ℕ). count_of places (tiles w * k)) (let e : 0 + tiles h ≡ tiles h = omega arith in e)
       where
         none : (c z u : ℕ) → z ≡ 0 → c + z ≡ u → c ≡ u
         none c z u a b = omega arith
@@ -330,7 +335,8 @@ module _ (w h : ℕ) (p q words : List ℕ) (n : ℕ) (said : (tile_map w h p q 
   map_holds =
       record {
         marks = pixel_marked w h p q size after word_is;
-        only = λ j i k e. tile_where w h p q j i (both_true (ltb i (tiles w)) (tile_changed w h p q j i) (sym (bit_tile w h p q size j i) ∙ ap (λ (v : ℕ). marked v i) (sym (word_is j k)) ∙ e)).1;
+        only = λ j i k e. tile_where w h p q j i
+            (both_true (ltb i (tiles w)) (tile_changed w h p q j i) (sym (bit_tile w h p q size j i) ∙ ap (λ (v : ℕ). marked v i) (sym (word_is j k)) ∙ e)).1;
         past = λ j i k l. ap (λ (v : ℕ). marked v i) (word_is j k) ∙ marked_past (tile_changed w h p q j) (tiles w) i l;
         rest = ap (drop (tiles h)) is ∙ drop_at whole_words (drop (length whole_words) words) (tiles h) long ∙ ap (λ (k : ℕ). drop k words) long;
         counts = ap counted front ∙ counted_all w h p q size;
@@ -351,7 +357,8 @@ module _ (w h : ℕ) (p q words : List ℕ) (n : ℕ) (said : (tile_map w h p q 
       long = length_words w h p q 0 (tiles h)
 
       is : after ≡ whole_words ++ drop (length whole_words) words
-      is = ap (λ (o : Outcome). o.memory.bytes) all_passed.left ∙ ap (λ (k : ℕ). whole_words ++ drop k words) (let e : 0 + length whole_words ≡ length whole_words = omega arith in e)
+      is = ap (λ (o : Outcome). o.memory.bytes) all_passed.left
+          ∙ ap (λ (k : ℕ). whole_words ++ drop k words) (let e : 0 + length whole_words ≡ length whole_words = omega arith in e)
 
       front : take (tiles h) after ≡ whole_words
       front = ap (take (tiles h)) is ∙ take_at whole_words (drop (length whole_words) words) (tiles h) long

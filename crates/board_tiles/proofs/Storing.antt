@@ -24,8 +24,18 @@ pub record Storing (out₀ p q : List ℕ) (w h : ℕ) (out marks : List ℕ) (j
   pub whole : put out₀ 0 (tile_words w h p q) ≡ put out j (words_from w h p q j (tiles h - j))
 
 module _ (out₀ p q : List ℕ) (w h : ℕ) where
-  pub storing_first : Sized w h → w * h ≤ length p → w * h ≤ length q → tiles h ≤ length out₀ → (marks : List ℕ) → Room marks w → Storing out₀ p q w h out₀ marks 0
-  storing_first z k l s marks r = record { size = z; previous_long = k; next_long = l; space = s; long = refl; within = omega arith; room = r; whole = ap (λ (n : ℕ). put out₀ 0 (words_from w h p q 0 n)) (let e : tiles h ≡ tiles h - 0 = omega arith in e) }
+  pub storing_first : Sized w h → w * h ≤ length p → w * h ≤ length q → tiles h ≤ length out₀ → (marks : List ℕ) → Room marks w
+      → Storing out₀ p q w h out₀ marks 0
+  storing_first z k l s marks r = record {
+    size = z;
+    previous_long = k;
+    next_long = l;
+    space = s;
+    long = refl;
+    within = omega arith;
+    room = r;
+    whole = ap (λ (n : ℕ). put out₀ 0 (words_from w h p q 0 n)) (let e : tiles h ≡ tiles h - 0 = omega arith in e);
+  }
 
   module _ (out marks : List ℕ) (j : ℕ) (v : Storing out₀ p q w h out marks j) where
     -- row j begins inside the picture

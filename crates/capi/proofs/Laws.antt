@@ -17,7 +17,8 @@ module _ {number place : ℕ} {s : Said} {m : Memory} (t : Told number place s) 
   pub held_length : {o : Outcome} {n : ℕ} → leaves s m ≡ o → n ≡ length_of s → HeldLength number place n m o
   held_length e l = record { held = held e; length_is = l ∙ ap (λ (y : Outcome). length_of y.said) e }
 
-  pub held_reel : {o : ReelOutcome} {r : Reel} {after handed : Record} → builds r (leaves s m) ≡ o → after ≡ record_of s r handed → HeldReel number place after handed m o
+  pub held_reel : {o : ReelOutcome} {r : Reel} {after handed : Record} → builds r (leaves s m) ≡ o → after ≡ record_of s r handed
+      → HeldReel number place after handed m o
   held_reel {o} {r} {after} {handed} e l =
       record { held = held (ap (λ (y : ReelOutcome). y.left) e); record_is = l ∙ ap (λ (y : ReelOutcome). record_of y.left.said y.reel handed) e }
 

@@ -76,7 +76,8 @@ module _ (b : List ℕ) where
   unfolding frame_header
   frame_large k t l m = simp (le-leb 16 (length b) k, eq-eqb (u16_at b 4) FRAME_TYPE t, le-leb 16 (u32_at b 0) l, lt-leb (u32_at b 0) (length b) m)
 
-  pub frame_whole : (count size : ℕ) → count ≡ u16_at b 6 → size ≡ u32_at b 0 → 16 ≤ length b → u16_at b 4 ≡ FRAME_TYPE → 16 ≤ u32_at b 0 → u32_at b 0 ≤ length b
+  pub frame_whole : (count size : ℕ) → count ≡ u16_at b 6 → size ≡ u32_at b 0 → 16 ≤ length b → u16_at b 4 ≡ FRAME_TYPE → 16 ≤ u32_at b 0
+      → u32_at b 0 ≤ length b
       → whole.Frame count size ≡ frame_header b
   unfolding frame_header
   frame_whole count size e f k t l m =

@@ -65,7 +65,8 @@ module _ (n : ℕ) (b : List ℕ) (at : ℕ) where
       let m' = length-drop at b in
       let word : (j : ℕ) → j + 2 ≤ 16 → u16_at (drop at t) j ≡ u16_at (drop at b) j =
       (λ j h. drop_word t at j ∙ word_prefix n b (at + j) (omega (arith, i.0, i.1)) ∙ sym (drop_word b at j)) in
-      let e : u32_at (drop at t) 0 ≡ u32_at (drop at b) 0 = drop_word32 t at 0 ∙ word32_prefix n b (at + 0) (omega (arith, i.0, i.1)) ∙ sym (drop_word32 b at 0) in
+      let e : u32_at (drop at t) 0 ≡ u32_at (drop at b) 0 = drop_word32 t at 0 ∙ word32_prefix n b (at + 0) (omega (arith, i.0, i.1))
+      ∙ sym (drop_word32 b at 0) in
       sym (frame_whole (drop at b) count size (i.3 ∙ word 6 (omega arith)) (i.4 ∙ e) (omega (arith, i.0, i.1)) (sym (word 4 (omega arith)) ∙ i.2)
       (omega (arith, i.0, i.4, e)) (omega (arith, i.1, i.4, e)))
 
@@ -92,7 +93,8 @@ module _ (n : ℕ) (b : List ℕ) (at : ℕ) where
   top_prefix Loose kind end q = loose_prefix kind end q
 
 -- a frame met in a prefix is met in the bytes
-pub next_prefix : (layout : Layout) (n : ℕ) (b : List ℕ) (at from end : ℕ) → next_at layout (take n b) at ≡ Frame from end → next_at layout b at ≡ Frame from end
+pub next_prefix : (layout : Layout) (n : ℕ) (b : List ℕ) (at from end : ℕ) → next_at layout (take n b) at ≡ Frame from end → next_at layout b at
+    ≡ Frame from end
 next_prefix layout n b at from end =
     next_by layout (take n b) (λ (k : ℕ) (x : Next). x ≡ Frame from end → next_at layout b k ≡ Frame from end)
     (λ k e q r. let z : ◌≡◌ {A = ℕ} 0 1 = cc in absurd (omega arith))
@@ -182,12 +184,16 @@ module _ (b : List ℕ) (k at : ℕ) where
       ap₂ (λ (x y : Bool). tested x y (leb (k + at + u32_at b (k + at)) (length b)) (u16_at b (k + at + 4)) (k + at + u32_at b (k + at)))
       (there_moved (at + 6) (k + at + 6) k b (omega arith) (omega arith)) (ap (leb 6) size_moved)
       ∙ ap₂ (λ (n : ℕ) (m : ℕ). tested (leb (at + 6) (length (drop k b))) (leb 6 size) (leb n (length b)) m n) e word_moved
-      ∙ by_test (λ (t : Bool). tested (leb (at + 6) (length (drop k b))) t (leb (k + (at + size)) (length b)) (u16_at (drop k b) (at + 4)) (k + (at + size)) ≡ moved_header k (tested (leb (at + 6) (length (drop k b))) t (leb (at + size) (length (drop k b))) (u16_at (drop k b) (at + 4)) (at + size)))
+      ∙ by_test (λ (t : Bool). tested (leb (at + 6) (length (drop k b))) t (leb (k + (at + size)) (length b)) (u16_at (drop k b) (at + 4))
+      (k + (at + size)) ≡ moved_header k
+      (tested (leb (at + 6) (length (drop k b))) t (leb (at + size) (length (drop k b))) (u16_at (drop k b) (at + 4)) (at + size)))
       (leb 6 size)
       (λ s. let h = leb-true 6 size s in
-      ap (λ (l : Bool). tested (leb (at + 6) (length (drop k b))) true l (u16_at (drop k b) (at + 4)) (k + (at + size))) (there_moved (at + size) (k + (at + size)) k b refl (omega arith))
+      ap (λ (l : Bool). tested (leb (at + 6) (length (drop k b))) true l (u16_at (drop k b) (at + 4)) (k + (at + size)))
+      (there_moved (at + size) (k + (at + size)) k b refl (omega arith))
       ∙ tested_moved (leb (at + 6) (length (drop k b))) true (leb (at + size) (length (drop k b))) (u16_at (drop k b) (at + 4)) (at + size))
-      (λ s. small (leb (at + 6) (length (drop k b))) (leb (k + (at + size)) (length b)) (leb (at + size) (length (drop k b))) (u16_at (drop k b) (at + 4)) (at + size))
+      (λ s. small (leb (at + 6) (length (drop k b))) (leb (k + (at + size)) (length b)) (leb (at + size) (length (drop k b)))
+      (u16_at (drop k b) (at + 4)) (at + size))
     where
       small : (t l m : Bool) (kind end : ℕ) → tested t false l kind (k + end) ≡ moved_header k (tested t false m kind end)
       small true l m kind end = refl
@@ -206,10 +212,13 @@ top_moved Packed b k at = frame_moved b k at
 top_moved Loose b k at =
     ap₂ (λ (t f : Bool). cond t (cond f (framed (k + at) (frame_header (drop (k + at) b))) (header_at b (k + at))) (chunk.Fault FewFrames))
     (there_moved (at + 6) (k + at + 6) k b (omega arith) (omega arith)) (ap (λ (x : ℕ). eqb x FRAME_TYPE) (word_moved b k at))
-    ∙ ap₂ (λ (x y : Header). cond (leb (at + 6) (length (drop k b))) (cond (eqb (u16_at (drop k b) (at + 4)) FRAME_TYPE) x y) (chunk.Fault FewFrames)) (frame_moved b k at) (header_moved b k at)
-    ∙ by (leb (at + 6) (length (drop k b))) (eqb (u16_at (drop k b) (at + 4)) FRAME_TYPE) (framed at (frame_header (drop at (drop k b)))) (header_at (drop k b) at)
+    ∙ ap₂ (λ (x y : Header). cond (leb (at + 6) (length (drop k b))) (cond (eqb (u16_at (drop k b) (at + 4)) FRAME_TYPE) x y)
+    (chunk.Fault FewFrames)) (frame_moved b k at) (header_moved b k at)
+    ∙ by (leb (at + 6) (length (drop k b))) (eqb (u16_at (drop k b) (at + 4)) FRAME_TYPE) (framed at (frame_header (drop at (drop k b))))
+    (header_at (drop k b) at)
   where
-    by : (t f : Bool) (x y : Header) → cond t (cond f (moved_header k x) (moved_header k y)) (chunk.Fault FewFrames) ≡ moved_header k (cond t (cond f x y) (chunk.Fault FewFrames))
+    by : (t f : Bool) (x y : Header) → cond t (cond f (moved_header k x) (moved_header k y)) (chunk.Fault FewFrames)
+        ≡ moved_header k (cond t (cond f x y) (chunk.Fault FewFrames))
     by false f x y = refl
     by true false x y = refl
     by true true x y = refl

@@ -42,7 +42,8 @@ module _ (b : List ℕ) where
   subs_none zero at i = refl
   subs_none (suc count) at i = absurd (not-suc-le-zero i)
 
-  pub subs_step : (count at : ℕ) → 0 < count → (x : Header) → header_at b at ≡ x → sub_spans b count at ≡ after_header at x (λ kind end. sub_spans b (count - 1) end)
+  pub subs_step : (count at : ℕ) → 0 < count → (x : Header) → header_at b at ≡ x → sub_spans b count at
+      ≡ after_header at x (λ kind end. sub_spans b (count - 1) end)
   unfolding sub_spans
   subs_step zero at i x q = absurd (not-suc-le-zero i)
   subs_step (suc count) at i x q = ap₂ (λ (y : Header) (n : ℕ). after_header at y (λ kind end. sub_spans b n end)) q (sym (sub-one (suc count)))
@@ -58,7 +59,8 @@ module _ (b : List ℕ) where
     subs_by zero at = none at
     subs_by (suc count) at = go (header_at b at) refl (λ end. subs_by count end)
       where
-        go : (x : Header) → header_at b at ≡ x → ((end : ℕ) → C count end (sub_spans b count end)) → C (suc count) at (after_header at x (λ kind end. sub_spans b count end))
+        go : (x : Header) → header_at b at ≡ x → ((end : ℕ) → C count end (sub_spans b count end))
+            → C (suc count) at (after_header at x (λ kind end. sub_spans b count end))
         go (chunk.Fault e) q rest = fault count at e q
         go (chunk.Chunk kind end) q rest = more count at kind end q (rest end)
 
@@ -108,7 +110,8 @@ unfolding top_at
 top_packed b at f e = ap (framed at) e
 
 -- a frame whose header is right at an offset is the chunk there
-pub top_there : (layout : Layout) (b : List ℕ) (at count size : ℕ) → frame_header (drop at b) ≡ whole.Frame count size → top_at layout b at ≡ chunk.Chunk FRAME_TYPE (at + size)
+pub top_there : (layout : Layout) (b : List ℕ) (at count size : ℕ) → frame_header (drop at b) ≡ whole.Frame count size → top_at layout b at
+    ≡ chunk.Chunk FRAME_TYPE (at + size)
 top_there Packed b at count size e = top_packed b at _ e
 top_there Loose b at count size e =
     let i = frame_in (drop at b) _ e in
@@ -123,31 +126,37 @@ module _ (layout : Layout) (b : List ℕ) where
   after_same at (chunk.Chunk kind end) f g i h = ap (λ (r : Spans). walked (span kind at end ∷ r.met) r.answer) (h kind end i.0 i.1)
 
   -- any number of chunks that is enough gives the same
-  within_enough : (l m count at : ℕ) → 0 < l → 0 < m → length b < at + l → length b < at + m → spans_within l layout b count at ≡ spans_within m layout b count at
+  within_enough : (l m count at : ℕ) → 0 < l → 0 < m → length b < at + l → length b < at + m → spans_within l layout b count at
+      ≡ spans_within m layout b count at
   unfolding spans_within
   within_enough zero m count at z z' h k = absurd (not-suc-le-zero z)
   within_enough (suc l) zero count at z z' h k = absurd (not-suc-le-zero z')
   within_enough (suc l) (suc m) zero at z z' h k = refl
   within_enough (suc l) (suc m) (suc count) at z z' h k =
-      after_same at (top_at layout b at) (λ kind end. spans_within l layout b (left_after kind count) end) (λ kind end. spans_within m layout b (left_after kind count) end)
+      after_same at (top_at layout b at) (λ kind end. spans_within l layout b (left_after kind count) end)
+      (λ kind end. spans_within m layout b (left_after kind count) end)
       (top_in layout b at _ refl) (λ kind end i j. within_enough l m (left_after kind count) end (omega arith) (omega arith) (omega arith) (omega arith))
 
   pub spans_none : (at : ℕ) → spans layout b 0 at ≡ walked [] Done
   unfolding spans
   spans_none at = refl
 
-  pub spans_more : (count at : ℕ) → spans layout b (suc count) at ≡ after_header at (top_at layout b at) (λ kind end. spans layout b (left_after kind count) end)
+  pub spans_more : (count at : ℕ) → spans layout b (suc count) at
+      ≡ after_header at (top_at layout b at) (λ kind end. spans layout b (left_after kind count) end)
   unfolding spans
   spans_more count at =
-      after_same at (top_at layout b at) (λ kind end. spans_within (length b) layout b (left_after kind count) end) (λ kind end. spans_within (suc (length b)) layout b (left_after kind count) end)
-      (top_in layout b at _ refl) (λ kind end i j. within_enough (length b) (suc (length b)) (left_after kind count) end (omega arith) (omega arith) (omega arith) (omega arith))
+      after_same at (top_at layout b at) (λ kind end. spans_within (length b) layout b (left_after kind count) end)
+      (λ kind end. spans_within (suc (length b)) layout b (left_after kind count) end)
+      (top_in layout b at _ refl)
+      (λ kind end i j. within_enough (length b) (suc (length b)) (left_after kind count) end (omega arith) (omega arith) (omega arith) (omega arith))
 
   -- chunks one after the other: what holds where no frame is asked for, where a fault stands, and of a chunk and then the rest
   module _ (C : ℕ → ℕ → Spans → Type 0)
       (none : (at : ℕ) → C 0 at (walked [] Done))
       (fault : (count at : ℕ) (e : Refusal) → top_at layout b at ≡ chunk.Fault e → C (suc count) at (walked [] (Refused e at)))
       (more : (count at kind end : ℕ) → top_at layout b at ≡ chunk.Chunk kind end → C (left_after kind count) end (spans layout b (left_after kind count) end)
-      → C (suc count) at (walked (span kind at end ∷ (spans layout b (left_after kind count) end).met) (spans layout b (left_after kind count) end).answer)) where
+      → C (suc count) at (walked (span kind at end ∷ (spans layout b (left_after kind count) end).met)
+      (spans layout b (left_after kind count) end).answer)) where
     by_spans : (left count at : ℕ) → 0 < left → length b < at + left → C count at (spans layout b count at)
     by_spans zero count at z h = absurd (not-suc-le-zero z)
     by_spans (suc left) zero at z h = subst (C 0 at) (sym (spans_none at)) (none at)
@@ -174,7 +183,8 @@ module _ (layout : Layout) (b : List ℕ) where
   frames_over at = ap filtered (spans_none at)
 
   module _ (count at : ℕ) where
-    filtered_more : (x : Header) → top_at layout b at ≡ x → frame_spans layout b (suc count) at ≡ filtered (after_header at x (λ kind end. spans layout b (left_after kind count) end))
+    filtered_more : (x : Header) → top_at layout b at ≡ x → frame_spans layout b (suc count) at
+        ≡ filtered (after_header at x (λ kind end. spans layout b (left_after kind count) end))
     unfolding frame_spans
     filtered_more x q = ap filtered (spans_more count at ∙ ap (λ (y : Header). after_header at y (λ kind end. spans layout b (left_after kind count) end)) q)
 
@@ -187,7 +197,8 @@ module _ (layout : Layout) (b : List ℕ) where
     unfolding only_frames frame_spans
     frames_here end q = filtered_more (chunk.Chunk FRAME_TYPE end) q
 
-    frames_past : (kind end : ℕ) → (kind ≡ FRAME_TYPE → ⊥) → top_at layout b at ≡ chunk.Chunk kind end → frame_spans layout b (suc count) at ≡ frame_spans layout b (suc count) end
+    frames_past : (kind end : ℕ) → (kind ≡ FRAME_TYPE → ⊥) → top_at layout b at ≡ chunk.Chunk kind end → frame_spans layout b (suc count) at
+        ≡ frame_spans layout b (suc count) end
     unfolding only_frames frame_spans
     frames_past kind end n q = filtered_more (chunk.Chunk kind end) q ∙ simp (ne_eqb kind FRAME_TYPE n)
 
@@ -213,7 +224,8 @@ module _ (layout : Layout) (b : List ℕ) where
   module _ (C : ℕ → Next → Type 0)
       (fault : (at : ℕ) (e : Refusal) → top_at layout b at ≡ chunk.Fault e → C at (Fault e at))
       (here : (at end : ℕ) → top_at layout b at ≡ chunk.Chunk FRAME_TYPE end → C at (Frame at end))
-      (past : (at kind end : ℕ) → top_at layout b at ≡ chunk.Chunk kind end → (kind ≡ FRAME_TYPE → ⊥) → C end (next_at layout b end) → C at (next_at layout b end)) where
+      (past : (at kind end : ℕ) → top_at layout b at ≡ chunk.Chunk kind end → (kind ≡ FRAME_TYPE → ⊥) → C end (next_at layout b end)
+      → C at (next_at layout b end)) where
     by_chunks : (left at : ℕ) → 0 < left → length b < at + left → C at (next_at layout b at)
     by_chunks zero at z h = absurd (not-suc-le-zero z)
     by_chunks (suc left) at z h = go (top_at layout b at) refl (λ end i j. by_chunks left end i j)
@@ -235,10 +247,12 @@ abbrev pub after_next : Next → (ℕ → Spans) → Spans
 after_next (Fault e place) rest = walked [] (Refused e place)
 after_next (Frame from end) rest = walked (span FRAME_TYPE from end ∷ (rest end).met) (rest end).answer
 
-pub frame_spans_next : (layout : Layout) (b : List ℕ) (count at : ℕ) → frame_spans layout b (suc count) at ≡ after_next (next_at layout b at) (λ end. frame_spans layout b count end)
+pub frame_spans_next : (layout : Layout) (b : List ℕ) (count at : ℕ) → frame_spans layout b (suc count) at
+    ≡ after_next (next_at layout b at) (λ end. frame_spans layout b count end)
 frame_spans_next layout b count at =
     next_by layout b (λ (k : ℕ) (x : Next). frame_spans layout b (suc count) k ≡ after_next x (λ end. frame_spans layout b count end))
-    (λ k e q. frames_fault layout b count k e q) (λ k end q. frames_here layout b count k end q) (λ k kind end q n i. frames_past layout b count k kind end n q ∙ i) at
+    (λ k e q. frames_fault layout b count k e q) (λ k end q. frames_here layout b count k end q)
+    (λ k kind end q n i. frames_past layout b count k kind end n q ∙ i) at
 
 pub frame_spans_step : (layout : Layout) (b : List ℕ) (count at : ℕ) → 0 < count → (x : Next) → next_at layout b at ≡ x
     → frame_spans layout b count at ≡ after_next x (λ end. frame_spans layout b (count - 1) end)
@@ -269,7 +283,8 @@ next_in layout b at x e =
     (λ k kind end q n j. let i = top_in layout b k _ q in next_earlier b k end (next_at layout b end) (omega (arith, i.0)) i.1 j) at)
 
 -- a frame that begins at an offset is the next one from there, whatever the layout
-pub next_there : (layout : Layout) (b : List ℕ) (at count size : ℕ) → frame_header (drop at b) ≡ whole.Frame count size → next_at layout b at ≡ Frame at (at + size)
+pub next_there : (layout : Layout) (b : List ℕ) (at count size : ℕ) → frame_header (drop at b) ≡ whole.Frame count size → next_at layout b at
+    ≡ Frame at (at + size)
 next_there layout b at count size e = next_here layout b at (at + size) (top_there layout b at count size e)
 
 -- the next frame as the code finds it
@@ -279,7 +294,8 @@ abbrev pub next_framed : ℕ → FrameHeader → Next
 next_framed at (whole.Fault e) = Fault e at
 next_framed at (whole.Frame count size) = Frame at (at + size)
 
-pub next_packed : (b : List ℕ) (at n : ℕ) → n ≡ length b - at → (f : FrameHeader) → frame_header (take n (drop at b)) ≡ f → next_at Packed b at ≡ next_framed at f
+pub next_packed : (b : List ℕ) (at n : ℕ) → n ≡ length b - at → (f : FrameHeader) → frame_header (take n (drop at b)) ≡ f → next_at Packed b at
+    ≡ next_framed at f
 next_packed b at n e f h = go f (ap frame_header (sym (take_all n (drop at b) (omega (arith, length-drop at b)))) ∙ h)
   where
     go : (x : FrameHeader) → frame_header (drop at b) ≡ x → next_at Packed b at ≡ next_framed at x
@@ -325,7 +341,8 @@ module _ (b : List ℕ) (count at : ℕ) where
 
     pub extent_more : (from end : ℕ) → next_at Loose b at ≡ Frame from end → extent b count at ≡ extent b (count - 1) end
     unfolding extent
-    extent_more from end q = ap reach (frame_spans_step Loose b count at left _ q) ∙ go (frame_spans Loose b (count - 1) end).met (frame_spans Loose b (count - 1) end).answer
+    extent_more from end q = ap reach (frame_spans_step Loose b count at left _ q)
+        ∙ go (frame_spans Loose b (count - 1) end).met (frame_spans Loose b (count - 1) end).answer
       where
         go : (ss : List Span) (a : Answer) → extent_of at (span FRAME_TYPE from end ∷ ss) a ≡ extent_of end ss a
         go ss Done = refl
@@ -372,9 +389,11 @@ module _ (b : List ℕ) (C : ℕ → ℕ → Spans → Type 0)
     → C (suc count) at (walked (span FRAME_TYPE from end ∷ (frame_spans Loose b count end).met) (frame_spans Loose b count end).answer)) where
   pub frame_spans_by : (count at : ℕ) → C count at (frame_spans Loose b count at)
   frame_spans_by zero at = subst (C 0 at) (sym (frames_over Loose b at)) (none at)
-  frame_spans_by (suc count) at = subst (C (suc count) at) (sym (frame_spans_next Loose b count at)) (go (next_at Loose b at) refl (λ end. frame_spans_by count end))
+  frame_spans_by (suc count) at = subst (C (suc count) at) (sym (frame_spans_next Loose b count at))
+      (go (next_at Loose b at) refl (λ end. frame_spans_by count end))
     where
-      go : (x : Next) → next_at Loose b at ≡ x → ((end : ℕ) → C count end (frame_spans Loose b count end)) → C (suc count) at (after_next x (λ end. frame_spans Loose b count end))
+      go : (x : Next) → next_at Loose b at ≡ x → ((end : ℕ) → C count end (frame_spans Loose b count end))
+          → C (suc count) at (after_next x (λ end. frame_spans Loose b count end))
       go (Fault e place) q rest = fault count at e place q
       go (Frame from end) q rest = more count at from end q (rest end)
 
@@ -406,7 +425,8 @@ abbrev pub AnswerIn : List ℕ → Answer → Type 0
 AnswerIn b Done = Unit {0}
 AnswerIn b (Refused e place) = place ≤ length b
 
-pub frames_refused : (b : List ℕ) (count at : ℕ) → at ≤ length b → (e : Refusal) (place : ℕ) → (top_frames b count at).answer ≡ Refused e place → place ≤ length b
+pub frames_refused : (b : List ℕ) (count at : ℕ) → at ≤ length b → (e : Refusal) (place : ℕ) → (top_frames b count at).answer ≡ Refused e place
+    → place ≤ length b
 unfolding top_frames
 frames_refused b count at h e place p =
     subst (AnswerIn b) p
@@ -445,7 +465,8 @@ module _ (b : List ℕ) where
 
     pub frame_at_fault : (e : Refusal) (place : ℕ) → next_at Loose b at ≡ Fault e place → frame_at b k at ≡ Fault e place
     unfolding frame_at
-    frame_at_fault e place q = ap kth (frame_spans_step Loose b k at (omega arith) _ q) ∙ ap (λ (ss : List Span). first_of ss (Refused e place)) (drop_none (k - 1))
+    frame_at_fault e place q = ap kth (frame_spans_step Loose b k at (omega arith) _ q)
+        ∙ ap (λ (ss : List Span). first_of ss (Refused e place)) (drop_none (k - 1))
       where
         drop_none : (n : ℕ) → drop {A = Span} n [] ≡ []
         drop_none zero = refl

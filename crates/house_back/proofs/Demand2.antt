@@ -76,7 +76,10 @@ module _ (z : Size) (previous next : State) where
     reads : (out : List ℕ) (n : ℕ) → DoneWith out n
         → read_frame (take n (write_frame z previous next out).memory.bytes) z previous ≡ leaves (done []) (lent_pair (refilled (area z) to previous))
     reads out n i =
-        let old : ByteState z from = record { exact = front_exact z previous i.size (area z) refl i.previous_long; bytes = bytes_take (area z) previous.picture bp } in
+        let old : ByteState z from = record {
+          exact = front_exact z previous i.size (area z) refl i.previous_long;
+          bytes = bytes_take (area z) previous.picture bp;
+        } in
         let new : ByteState z to = record { exact = front_exact z next i.size (area z) refl i.next_long; bytes = bytes_take (area z) next.picture bn } in
         let back = house_reads_back old new in
         let front-is : take n (write_frame z previous next out).memory.bytes ≡ f =
@@ -98,5 +101,6 @@ module _ (z : Size) (previous next : State) where
           let short = house_short (front_exact z previous e (area z) refl k) (front_exact z next e (area z) refl l) in (
             length f,
             ap (λ (o : Outcome). o.said) (written out e k l)
-                ∙ ap (λ (t : Bool). (cond t (leaves (done (length f ∷ [])) (lent_bytes (put out 0 f))) (refuse NoRoom 0 (lent_bytes out))).said) (le-leb (length f) (length out) (omega arith)),
+                ∙ ap (λ (t : Bool). (cond t (leaves (done (length f ∷ [])) (lent_bytes (put out 0 f))) (refuse NoRoom 0 (lent_bytes out))).said)
+                (le-leb (length f) (length out) (omega arith)),
           )

@@ -41,8 +41,10 @@ plays_more : (at : ℕ) (c : ChunkWalk) (f : FrameWalk) {p q p₁ q₁ p' q' : L
 plays_more at c f {p} {q} {p₁} {q₁} {p'} {q'} x y =
     record {
       done = ap (λ (v : Verdict). answer_after at v f.answer) x.ended ∙ y.done;
-      picture = ap (λ (v : Verdict). applied (c.pixels ++ writes_after v f.pixels) p) x.ended ∙ applied_append c.pixels f.pixels p ∙ ap (applied f.pixels) x.picture ∙ y.picture;
-      palette = ap (λ (v : Verdict). applied (c.colours ++ writes_after v f.colours) q) x.ended ∙ applied_append c.colours f.colours q ∙ ap (applied f.colours) x.palette ∙ y.palette;
+      picture = ap (λ (v : Verdict). applied (c.pixels ++ writes_after v f.pixels) p) x.ended ∙ applied_append c.pixels f.pixels p
+          ∙ ap (applied f.pixels) x.picture ∙ y.picture;
+      palette = ap (λ (v : Verdict). applied (c.colours ++ writes_after v f.colours) q) x.ended ∙ applied_append c.colours f.colours q
+          ∙ ap (applied f.colours) x.palette ∙ y.palette;
     }
 
 -- a chunk that stands at offset at of b, and what follows it
@@ -137,5 +139,6 @@ pub framed_plays : (z : Size) (subs : List (List ℕ)) (p q p' q' : List ℕ) �
 framed_plays z subs p q p' q' small s =
     let b = framed subs in
     plays_as
-    (frame_as z b (Frame (length subs) (length b)) (framed_header subs small) ∙ ap (λ (x : List ℕ). sub_chunks z x (length subs) 16) (take_all (length b) b (omega arith)))
+    (frame_as z b (Frame (length subs) (length b)) (framed_header subs small)
+    ∙ ap (λ (x : List ℕ). sub_chunks z x (length subs) 16) (take_all (length b) b (omega arith)))
     (chunks_play z b s 16 (framed_subs subs small))

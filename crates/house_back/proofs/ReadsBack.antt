@@ -136,12 +136,14 @@ module _ (z : Size) (p q : List ℕ) (zp : Picture z.width z.height p) (zq : Pic
 
   good_black : all_zero q ≡ true → Good z p q (chunk FLI_BLACK [])
   good_black e =
-      good FLI_BLACK [] (black (area z)) 0 (λ i. omega arith) (black_walk z []) (black_reads_back w h p q zp.pixels zq.pixels e) (omega (arith, length_chunk FLI_BLACK []))
+      good FLI_BLACK [] (black (area z)) 0 (λ i. omega arith) (black_walk z []) (black_reads_back w h p q zp.pixels zq.pixels e)
+      (omega (arith, length_chunk FLI_BLACK []))
 
   good_delta : length (delta_chunk z p q) ≤ picture_most → Good z p q (delta_chunk z p q)
   unfolding delta_chunk
   good_delta =
-      good (delta_kind z.format) (delta_body z p q) (delta_walk z (delta_body z p q)) (length (delta_body z p q)) (λ e. omega (arith, (kind_between z.format).0))
+      good (delta_kind z.format) (delta_body z p q) (delta_walk z (delta_body z p q)) (length (delta_body z p q))
+      (λ e. omega (arith, (kind_between z.format).0))
       (delta_walk_lem z (delta_body z p q)) (delta_reads_back z p q zp zq bq)
 
   good_shorter : (x y : List ℕ) → (length x ≤ length y → Good z p q x) → Good z p q y → Good z p q (shorter x y)
@@ -180,7 +182,8 @@ module _ (z : Size) (p q : List ℕ) (zp : Picture z.width z.height p) (zq : Pic
         by_test (λ t. Subs z (cond t [] (chunk FLI_COLOR256 (colour_body u v) ∷ []) ++ changed p q (picture_chunk z p q)) p u q v) (same u v)
         (λ e. subst (λ (x : List ℕ). Subs z (changed p q (picture_chunk z p q)) p u q x) (same_eq u v e) (picture_gives u))
         (λ e. sub FLI_COLOR256 (colour_body u v) p v (omega (arith, colour_short u v lu lv))
-        (acts_as (colour_walk z (colour_body u v)) (on_palette_lem (colour Of256 (colour_body u v)) (length (colour_body u v)) u v p (colour_reads_back u v lu lv)))
+        (acts_as (colour_walk z (colour_body u v))
+        (on_palette_lem (colour Of256 (colour_body u v)) (length (colour_body u v)) u v p (colour_reads_back u v lu lv)))
         (picture_gives v))
 
 module _ {z : Size} {s t : State} (zs : ByteState z s) (zt : ByteState z t) where

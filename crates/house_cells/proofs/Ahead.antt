@@ -28,7 +28,8 @@ module _ (out₀ : List ℕ) (at : ℕ) (whole : List ℕ) where
       ahead_on out' here' l o =
           let lo : length out' ≡ length out = ap length o ∙ length_put out here v ahead_room in
           record {
-            same = r.same ∙ ap (put out here) e ∙ put_append out here v more (length v) refl ahead_room ∙ ap₂ (λ (d : List ℕ) (j : ℕ). put d j more) (sym o) (sym l);
+            same = r.same ∙ ap (put out here) e ∙ put_append out here v more (length v) refl ahead_room
+                ∙ ap₂ (λ (d : List ℕ) (j : ℕ). put d j more) (sym o) (sym l);
             ends = omega (arith, r.ends, ap length e, length-append v more);
             room = omega (arith, r.room);
             long = lo ∙ r.long;

@@ -127,7 +127,10 @@ module _ (k : ℕ) where
   unfolding cells
   take_cells n zero a b h = refl
   take_cells zero (suc i) a b h = absurd (omega arith)
-  take_cells (suc n) (suc i) a b h = ap (λ (cs : List Cell). record { old = take k a; new = take k b } ∷ cs) (take_cells n i (drop k a) (drop k b) (omega arith))
+  take_cells (suc n) (suc i) a b h = ap (λ (cs : List Cell). record {
+    old = take k a;
+    new = take k b;
+  } ∷ cs) (take_cells n i (drop k a) (drop k b) (omega arith))
 
   -- m of n cells, from cell i on
   pub part_cells : (n i m : ℕ) (a b : List ℕ) → i + m ≤ n → take m (drop i (cells k n a b)) ≡ cells_at k i m a b

@@ -61,7 +61,12 @@ module _ (k : ℕ) (p q : List ℕ) where
               let one : left ≡ (left - 1) + 1 = omega arith in
               record {
                 place = omega (arith, x.place);
-                sized = omega (arith, x.sized, ap length (each_next r left h), length-append (f (row_at k r p q)) (flat_map f (cells_at k (r + 1) (left - 1) p q)));
+                sized = omega (
+                  arith,
+                  x.sized,
+                  ap length (each_next r left h),
+                  length-append (f (row_at k r p q)) (flat_map f (cells_at k (r + 1) (left - 1) p q)),
+                );
                 short = omega (arith, x.short, ap (λ (j : ℕ). most * j) one);
               }
 

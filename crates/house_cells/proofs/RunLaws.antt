@@ -53,10 +53,16 @@ after_gap c d [] = refl
 after_gap c d (s ∷ ss) = refl
 
 -- a changed cell in front, and those that follow it
-grow : (c : Cell) (cs : List Cell) → behind false c (stretches cs) ≡ record { gap = 0; changed = c ∷ take (run Changed cs) cs } ∷ stretches (drop (run Changed cs) cs)
+grow : (c : Cell) (cs : List Cell) → behind false c (stretches cs) ≡ record {
+  gap = 0;
+  changed = c ∷ take (run Changed cs) cs;
+} ∷ stretches (drop (run Changed cs) cs)
 grow c [] = unfold behind in (unfold stretches in (unfold run in refl))
 grow c (d ∷ ds) =
-    by_test (λ _. behind false c (stretches (d ∷ ds)) ≡ record { gap = 0; changed = c ∷ take (run Changed (d ∷ ds)) (d ∷ ds) } ∷ stretches (drop (run Changed (d ∷ ds)) (d ∷ ds))) (stays d)
+    by_test (λ _. behind false c (stretches (d ∷ ds)) ≡ record {
+      gap = 0;
+      changed = c ∷ take (run Changed (d ∷ ds)) (d ∷ ds);
+    } ∷ stretches (drop (run Changed (d ∷ ds)) (d ∷ ds))) (stays d)
     (λ e.
     ap (λ (ss : List Stretch). behind false c ss) (stretches_front true d ds e) ∙ after_gap c d (stretches ds)
     ∙ ap (λ (ss : List Stretch). record { gap = 0; changed = c ∷ [] } ∷ ss) (sym (stretches_front true d ds e))
@@ -75,7 +81,8 @@ pub stretches_none : (cs : List Cell) → length cs ≤ run Unchanged cs → str
 stretches_none [] h = unfold stretches in refl
 stretches_none (c ∷ cs) h =
     by_test (λ _. stretches (c ∷ cs) ≡ []) (stays c)
-    (λ e. stretches_front true c cs e ∙ ap (λ (ss : List Stretch). behind true c ss) (stretches_none cs (omega (arith, run_front Unchanged true c cs e))) ∙ none c)
+    (λ e. stretches_front true c cs e ∙ ap (λ (ss : List Stretch). behind true c ss)
+    (stretches_none cs (omega (arith, run_front Unchanged true c cs e))) ∙ none c)
     (λ e. absurd (omega (arith, run_front Unchanged false c cs e)))
   where
     none : (c : Cell) → behind true c [] ≡ []
@@ -174,5 +181,6 @@ module _ (p q : List ℕ) (k n i : ℕ) (t : Sought) where
 
   pub running_ends : (j at : ℕ) → Running j at → n ≤ j → (j - i ≡ run t (drop i (cells k n p q))) × (i + (j - i) ≤ n)
   running_ends j at r h =
-      let none : run t (drop j (cells k n p q)) ≡ 0 = ap (run t) (drop_of_length-le (cells k n p q) {i = j} (omega (arith, length_cells k n p q))) ∙ run_nil t in
+      let none : run t (drop j (cells k n p q)) ≡ 0 = ap (run t) (drop_of_length-le (cells k n p q) {i = j} (omega (arith, length_cells k n p q)))
+      ∙ run_nil t in
       (omega (arith, r.so_far, r.low), omega (arith, r.low, r.high))

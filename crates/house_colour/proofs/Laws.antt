@@ -28,7 +28,10 @@ module _ (p q : List ℕ) (i g n : ℕ) where
       omega (arith, ap length packet_bytes_lem, length-take-le (n * 3) d (omega (arith, length-drop ((i + g) * 3) q)))
 
   -- the same with the entries that a range lends
-  pub packet_lent : g ∷ n % 256 ∷ take ((i + g) * 3 + n * 3 - (i + g) * 3) (drop ((i + g) * 3) q) ≡ colour_packet (record { gap = g; changed = cells_at 3 (i + g) n p q })
+  pub packet_lent : g ∷ n % 256 ∷ take ((i + g) * 3 + n * 3 - (i + g) * 3) (drop ((i + g) * 3) q) ≡ colour_packet (record {
+    gap = g;
+    changed = cells_at 3 (i + g) n p q;
+  })
   packet_lent =
       ap (λ (k : ℕ). g ∷ n % 256 ∷ take k (drop ((i + g) * 3) q)) (add-sub_cancel_left ((i + g) * 3) (n * 3)) ∙ sym packet_bytes_lem
 

@@ -1,5 +1,6 @@
 -- A colour chunk reads back: its walk has no fault, ends at the body's end, and its writes turn the previous palette into the next.
--- The entries are gaps and stretches (`split`), and the walk goes a packet for each stretch: it leaves a gap as it is, and puts a stretch's entries in their place.
+-- The entries are gaps and stretches (`split`), and the walk goes a packet for each stretch: it leaves a gap as it is, and puts a stretch's entries
+-- in their place.
 use mathlib.Core.Path.{◌≡◌, refl, sym, ap, ap₂, ◌∙◌}
 use mathlib.Core.List.{List, [], ◌∷◌, ◌++◌, map, append_assoc, flat_map}
 use mathlib.Core.Bool.{true}
@@ -57,7 +58,8 @@ module _ (b : List ℕ) where
       let whole : Colours (at + 2) (3 * (i + k)) (3 * m) (i + k + m) ≡ packet_at Of256 b at i =
       sym (packet_whole Of256 b at (i + k) m (omega arith) fits (levels_all (take (3 * m) (drop (at + 2) b))))
       ∙ packet_at_lem Of256 b at i (i + k) m two (ap (λ (j : ℕ). i + j) (sym skip)) (sym em ∙ ap count_of (sym count)) in
-      let px : map (level Of256) (take (3 * m) (drop (at + 2) b)) ≡ v = map_same (level Of256) level_same (take (3 * m) (drop (at + 2) b)) ∙ there_take b v more (at + 2) (3 * m) data' lv in
+      let px : map (level Of256) (take (3 * m) (drop (at + 2) b)) ≡ v = map_same (level Of256) level_same (take (3 * m) (drop (at + 2) b))
+      ∙ there_take b v more (at + 2) (3 * m) data' lv in
       let less : suc n - 1 ≡ n = omega arith in
       gives_as (packets_more Of256 b (suc n) at i (omega arith) (at + 2) (3 * (i + k)) (3 * m) (i + k + m) whole)
       (gives_then (3 * (i + k)) (map (level Of256) (take (3 * m) (drop (at + 2) b))) (front ++ (v ++ z))
@@ -86,10 +88,13 @@ module _ (b : List ℕ) where
       let l2 = length-append rs more in
       let lfn = length-append front (news rs) in
       let lb = length-append (news rs) (flat_map colour_packet ss) in
-      let data' : drop (at + 2) b ≡ news rs ++ flat_map colour_packet ss = there_drop b (k ∷ n % 256 ∷ []) (news rs ++ flat_map colour_packet ss) at 2 there refl in
+      let data' : drop (at + 2) b ≡ news rs ++ flat_map colour_packet ss =
+      there_drop b (k ∷ n % 256 ∷ []) (news rs ++ flat_map colour_packet ss) at 2 there refl in
       gives_to refl
-      (sym (ap (λ (l : List ℕ). pre ++ l) (olds_append still (rs ++ more) ∙ ap (λ (l : List ℕ). olds still ++ l) (olds_append rs more)) ∙ sym (append_assoc pre (olds still) (olds rs ++ olds more))))
-      (sym (ap (λ (l : List ℕ). pre ++ l) (news_append still (rs ++ more) ∙ ap₂ (λ (x y : List ℕ). x ++ y) (sym q) (news_append rs more)) ∙ sym (append_assoc pre (olds still) (news rs ++ news more))))
+      (sym (ap (λ (l : List ℕ). pre ++ l) (olds_append still (rs ++ more) ∙ ap (λ (l : List ℕ). olds still ++ l) (olds_append rs more))
+      ∙ sym (append_assoc pre (olds still) (olds rs ++ olds more))))
+      (sym (ap (λ (l : List ℕ). pre ++ l) (news_append still (rs ++ more) ∙ ap₂ (λ (x y : List ℕ). x ++ y) (sym q) (news_append rs more))
+      ∙ sym (append_assoc pre (olds still) (news rs ++ news more))))
       (packet_gives (length ss) at i k (n % 256) n (news rs) (flat_map colour_packet ss) front (olds rs) (olds more) (front ++ (news rs ++ news more)) end there
       (count_back n (omega arith) (omega arith)) ln lo (omega arith) (omega arith)
       (gives_to refl (append_assoc front (news rs) (olds more)) (append_assoc front (news rs) (news more))

@@ -25,5 +25,13 @@ use Rattle.house_frame.specs.House.{colour_chunk, picture_chunk, house_chunks, f
 use Rattle.house_examples.specs.Numbers.{holds, all, up_from, stripes, numbers}
 
 pub numbers_hold : T (all numbers)
-unfolding all holds numbers up_from stripes blank by_kind sub_chunk same chunk magnitude u16_at colour'.colour colour'.packets colour'.packet_at colour'.packet_of colour'.count_of colour'.levels_ok colour'.level ss2'.ss2 ss2'.lines ss2'.line_at ss2'.last_at ss2'.word_of ss2'.line_walk packets'.packets packets'.packet_at packets'.packet_of packets'.pixels packets'.data_bytes lc'.lc lc'.rows lc'.row_at lc'.start_at black copied brun'.brun brun'.rows brun'.row brun'.packets brun'.packet_at brun'.packet_of brun'.data_bytes brun'.pixels raised house_bytes bytes house allowed down equal best table chosen choose better via brun_row brun_body all_zero shorter full_chunk cells behind stretches house'.packet_bytes house'.equals house'.repeats house'.up_to_repeat house'.first_packet house'.unit_packets house'.shortenings house'.gap_packets house'.stretch_packets house'.row_packets line'.counted line'.last_changes line'.line delta'.skip_word delta'.stretch_lines delta'.changed_rows delta'.line_count delta'.delta_body run lcLine'.line lcDelta'.up_to_last lcDelta'.first_row lcDelta'.row_count lcDelta'.delta_body delta_body flatten flat_map colour_chunk delta_chunk picture_chunk house_chunks framed house_frame
+unfolding all holds numbers up_from stripes blank by_kind sub_chunk same chunk magnitude u16_at colour'.colour colour'.packets colour'.packet_at
+    colour'.packet_of colour'.count_of colour'.levels_ok colour'.level ss2'.ss2 ss2'.lines ss2'.line_at ss2'.last_at ss2'.word_of ss2'.line_walk
+    packets'.packets packets'.packet_at packets'.packet_of packets'.pixels packets'.data_bytes lc'.lc lc'.rows lc'.row_at lc'.start_at black copied
+    brun'.brun brun'.rows brun'.row brun'.packets brun'.packet_at brun'.packet_of brun'.data_bytes brun'.pixels raised house_bytes bytes house
+    allowed down equal best table chosen choose better via brun_row brun_body all_zero shorter full_chunk cells behind stretches house'.packet_bytes
+    house'.equals house'.repeats house'.up_to_repeat house'.first_packet house'.unit_packets house'.shortenings house'.gap_packets
+    house'.stretch_packets house'.row_packets line'.counted line'.last_changes line'.line delta'.skip_word delta'.stretch_lines delta'.changed_rows
+    delta'.line_count delta'.delta_body run lcLine'.line lcDelta'.up_to_last lcDelta'.first_row lcDelta'.row_count lcDelta'.delta_body delta_body
+    flatten flat_map colour_chunk delta_chunk picture_chunk house_chunks framed house_frame
 numbers_hold = tt

@@ -142,7 +142,11 @@ module _ (z : Size) (q : List ℕ) (d : ℕ) where
   unfolding shorter_plan
   shorter_delta l k i = rw (lt-ltb d (length (full z q)) l, i)
 
-  pub shorter_full : length (full z q) ≤ d → (k f : ℕ) → k ≡ full_kind z.width z.height q → f ≡ length (full z q) → record { chunks = 1; kind = k; size = f } ≡ shorter_plan z q d
+  pub shorter_full : length (full z q) ≤ d → (k f : ℕ) → k ≡ full_kind z.width z.height q → f ≡ length (full z q) → record {
+    chunks = 1;
+    kind = k;
+    size = f;
+  } ≡ shorter_plan z q d
   unfolding shorter_plan
   shorter_full l k f i j = rw (le-ltb d (length (full z q)) l) (ap₂ (λ (a b : ℕ). record { chunks = 1; kind = a; size = b }) i j)
 
@@ -151,7 +155,11 @@ module _ (z : Size) (q : List ℕ) (d : ℕ) where
   unfolding shorter_plan
   shorter_brun {r} f k = by_case (ltb d (length (full z q))) f
     where
-      by_case : (t : Bool) → r ≡ cond t (record { chunks = 1; kind = delta_kind z.format; size = d }) (planned (full_kind z.width z.height q) (full z q)) → full_kind z.width z.height q ≡ FLI_BRUN
+      by_case : (t : Bool) → r ≡ cond t (record {
+        chunks = 1;
+        kind = delta_kind z.format;
+        size = d;
+      }) (planned (full_kind z.width z.height q) (full z q)) → full_kind z.width z.height q ≡ FLI_BRUN
       by_case true i = absurd (omega (arith, (kind_between z.format).1, ap (λ (x : ChunkPlan). x.kind) i))
       by_case false i = sym (ap (λ (x : ChunkPlan). x.kind) i) ∙ k
 
@@ -193,7 +201,10 @@ module _ (z : Size) (p q : List ℕ) where
   unfolding delta_plan picture_plan
   delta_taken {r} f s = by_case (same p q) f
     where
-      by_case : (t : Bool) → r ≡ cond t (record { chunk = nothing; search = false }) sought → (r.chunk ≡ cond t nothing (used shorter)) × (r.chunk.kind ≡ FLI_BRUN → ⊥)
+      by_case : (t : Bool) → r ≡ cond t (record {
+        chunk = nothing;
+        search = false;
+      }) sought → (r.chunk ≡ cond t nothing (used shorter)) × (r.chunk.kind ≡ FLI_BRUN → ⊥)
       by_case true i = (ap (λ (x : DeltaPlan). x.chunk) i, λ k. absurd (omega (arith, ap (λ (x : DeltaPlan). x.chunk.kind) i)))
       by_case false i =
           let e = ltb-true _ _ (not-false _ (sym (ap (λ (x : DeltaPlan). x.search) i) ∙ s)) in
@@ -251,14 +262,16 @@ module _ (z : Size) (p q : List ℕ) {r : ChunkPlan} (f : r ≡ picture_plan z p
     pub delta_planned : r.kind ≡ delta_kind z.format → DeltaPlanned z p q r
     unfolding picture_chunk delta_chunk
     delta_planned k =
-        by_test (λ d. r ≡ used z p q d → flatten (changed p q (picture_chunk z p q)) ≡ cond d (delta_chunk z p q) (full z q) → DeltaPlanned z p q r) (shorter z p q)
+        by_test (λ d. r ≡ used z p q d → flatten (changed p q (picture_chunk z p q)) ≡ cond d (delta_chunk z p q) (full z q) → DeltaPlanned z p q r)
+        (shorter z p q)
         (λ _ i j. record { size = ap (λ (y : ChunkPlan). y.size) i ∙ delta_length z p q; bytes = j })
         (λ _ i j. absurd (full_kind_lem z q (sym (ap (λ (y : ChunkPlan). y.kind) i) ∙ k))) some.0 some.1
 
     pub full_planned : (r.kind ≡ delta_kind z.format → ⊥) → FullPlanned z p q r
     unfolding picture_chunk
     full_planned k =
-        by_test (λ d. r ≡ used z p q d → flatten (changed p q (picture_chunk z p q)) ≡ cond d (delta_chunk z p q) (full z q) → FullPlanned z p q r) (shorter z p q)
+        by_test (λ d. r ≡ used z p q d → flatten (changed p q (picture_chunk z p q)) ≡ cond d (delta_chunk z p q) (full z q) → FullPlanned z p q r)
+        (shorter z p q)
         (λ _ i j. absurd (k (ap (λ (y : ChunkPlan). y.kind) i)))
         (λ _ i j. record { kind = ap (λ (y : ChunkPlan). y.kind) i; size = ap (λ (y : ChunkPlan). y.size) i; bytes = j }) some.0 some.1
 
@@ -273,7 +286,8 @@ module _ {a b : List (List ℕ)} {m n : ℕ} {r s : ChunkPlan} (x : Counted a m 
   framed_parts : framed (a ++ b) ≡ (header_bytes (16 + r.size + s.size) (r.chunks + s.chunks) ++ flatten a) ++ flatten b
   unfolding framed header_bytes
   framed_parts =
-      let size : 16 + length (flatten (a ++ b)) ≡ 16 + r.size + s.size = omega (arith, ap length (flatten_append a b), length-append (flatten a) (flatten b), x.size, y.size) in
+      let size : 16 + length (flatten (a ++ b)) ≡ 16 + r.size + s.size =
+      omega (arith, ap length (flatten_append a b), length-append (flatten a) (flatten b), x.size, y.size) in
       let count : length (a ++ b) ≡ r.chunks + s.chunks = omega (arith, length-append a b, x.chunks, y.chunks) in
       ap₂ (λ (i j : ℕ). header_bytes i j ++ flatten (a ++ b)) size count
       ∙ ap (λ (l : List ℕ). header_bytes (16 + r.size + s.size) (r.chunks + s.chunks) ++ l) (flatten_append a b)
@@ -282,7 +296,15 @@ module _ {a b : List (List ℕ)} {m n : ℕ} {r s : ChunkPlan} (x : Counted a m 
   framed_length : length (framed (a ++ b)) ≡ 16 + r.size + s.size
   framed_length =
       let f = header_bytes (16 + r.size + s.size) (r.chunks + s.chunks) in
-      omega (arith, ap length framed_parts, length-append (f ++ flatten a) (flatten b), length-append f (flatten a), header_length (16 + r.size + s.size) (r.chunks + s.chunks), x.size, y.size)
+      omega (
+        arith,
+        ap length framed_parts,
+        length-append (f ++ flatten a) (flatten b),
+        length-append f (flatten a),
+        header_length (16 + r.size + s.size) (r.chunks + s.chunks),
+        x.size,
+        y.size,
+      )
 
   -- the three stored one after the other
   framed_stored : (d e f g : List ℕ) → 16 + r.size + s.size ≤ length d → e ≡ put d 0 (header_bytes (16 + r.size + s.size) (r.chunks + s.chunks))
@@ -328,7 +350,8 @@ module _ {z : Size} {s t : State} {a b : ChunkPlan} (p : Planned z s t a b) wher
       → leaves (done ((16 + a.size + b.size) ∷ [])) (lent_bytes d₃) ≡ fitted (house_frame z s t) d
   unfolding house_frame house_chunks
   house_stored d d₁ d₂ d₃ room i j k =
-      fitted_whole (house_frame z s t) d (16 + a.size + b.size) (framed_length colours_in picture_in) d₃ room (framed_stored colours_in picture_in d d₁ d₂ d₃ room i j k)
+      fitted_whole (house_frame z s t) d (16 + a.size + b.size) (framed_length colours_in picture_in) d₃ room
+      (framed_stored colours_in picture_in d d₁ d₂ d₃ room i j k)
 
 -- the checks of a call
 

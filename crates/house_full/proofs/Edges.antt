@@ -64,7 +64,8 @@ module _ (s : List ℕ) (i : ℕ) (h : i + 1 < length s) where
   front : drop i s ≡ get_or s i 0 ∷ (get_or s (i + 1) 0 ∷ drop (i + 1 + 1) s)
   front =
       drop-cons s i 0 (omega arith)
-      ∙ ap (λ (l : List ℕ). get_or s i 0 ∷ l) (ap (λ (k : ℕ). drop k s) (sym (add-one i)) ∙ drop-cons s (i + 1) 0 h ∙ ap (λ (k : ℕ). get_or s (i + 1) 0 ∷ drop k s) (sym (add-one (i + 1))))
+      ∙ ap (λ (l : List ℕ). get_or s i 0 ∷ l)
+      (ap (λ (k : ℕ). drop k s) (sym (add-one i)) ∙ drop-cons s (i + 1) 0 h ∙ ap (λ (k : ℕ). get_or s (i + 1) 0 ∷ drop k s) (sym (add-one (i + 1))))
 
   next : drop (i + 1) s ≡ get_or s (i + 1) 0 ∷ drop (i + 1 + 1) s
   next = drop-cons s (i + 1) 0 h ∙ ap (λ (k : ℕ). get_or s (i + 1) 0 ∷ drop k s) (sym (add-one (i + 1)))
@@ -122,7 +123,14 @@ body_edges : (w h : ℕ) (q : List ℕ) → all_edges w h q ≤ length (brun_bod
 unfolding all_edges
 body_edges w zero q = omega arith
 body_edges w (suc h) q =
-    omega (arith, encodes_edges (house_encodes (take w q)), length_row (take w q), body_edges w h (drop w q), ap length (body_more w h q), length-append (brun_row (take w q)) (brun_body w h (drop w q)))
+    omega (
+      arith,
+      encodes_edges (house_encodes (take w q)),
+      length_row (take w q),
+      body_edges w h (drop w q),
+      ap length (body_more w h q),
+      length-append (brun_row (take w q)) (brun_body w h (drop w q)),
+    )
 
 -- a full chunk
 

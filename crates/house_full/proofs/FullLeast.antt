@@ -1,6 +1,7 @@
 -- No single BLACK, BRUN or COPY chunk that the reader takes for a picture is shorter than its full chunk (`full_least`).
 -- The idea: the bytes of a row that ends are some encoding of its pixels, packet by packet (`packets_taken`), so no shorter than the house row;
--- with its ignored byte each row, and so the body (`brun_least`), is no shorter than the house's. The full chunk is the shortest of the house's (`full_shortest`).
+-- with its ignored byte each row, and so the body (`brun_least`), is no shorter than the house's. The full chunk is the shortest of the house's
+-- (`full_shortest`).
 use mathlib.Core.Path.{◌≡◌, refl, sym, ap, ◌∙◌, subst}
 use mathlib.Core.List.{List, [], ◌∷◌, ◌++◌}
 use mathlib.Core.Bool.{Bool, true, false, cond}
@@ -73,11 +74,13 @@ module _ (b : List ℕ) where
         place = omega (arith, r.place, data_copy t k, length-append vs r.bs);
       })
 
-  packets_taken : (left filled at end : ℕ) → filled ≤ left → (walk.packets b left filled at).verdict ≡ verdict.Ends end → Taken (walk.packets b left filled at).pixels at end
+  packets_taken : (left filled at end : ℕ) → filled ≤ left → (walk.packets b left filled at).verdict ≡ verdict.Ends end
+      → Taken (walk.packets b left filled at).pixels at end
   unfolding walk.packets
   packets_taken zero filled at end h e = record { bs = []; code = none; place = omega (arith, ends_same e) }
   packets_taken (suc left) (suc filled) at end h e = packets_taken left filled at end (omega arith) e
-  packets_taken (suc left) zero at end h e = at_packet (packet_at b at (suc left)) (packet_in b at (suc left) _ refl) e (λ f to l q. packets_taken left f to end l q)
+  packets_taken (suc left) zero at end h e =
+      at_packet (packet_at b at (suc left)) (packet_in b at (suc left) _ refl) e (λ f to l q. packets_taken left f to end l q)
     where
       at_packet : (p : BrunStep) → PacketIn b at (suc left) p → (after_packet b at p (λ n to. walk.packets b left (n - 1) to)).verdict ≡ verdict.Ends end
           → ((f to : ℕ) → f ≤ left → (walk.packets b left f to).verdict ≡ verdict.Ends end → Taken (walk.packets b left f to).pixels to end)
@@ -161,7 +164,8 @@ module _ (w h : ℕ) (b p q : List ℕ) (end : ℕ) (lp : length p ≡ w * h) wh
       omega (
         arith,
         l,
-        ap length (sym g.result ∙ ap (λ (k : Walk). applied k.writes p) (copied_whole (w * h) b l) ∙ one_write (take (w * h) b) p ∙ put_whole p (take (w * h) b) (omega (arith, length-take (w * h) b))),
+        ap length (sym g.result ∙ ap (λ (k : Walk). applied k.writes p) (copied_whole (w * h) b l) ∙ one_write (take (w * h) b) p
+            ∙ put_whole p (take (w * h) b) (omega (arith, length-take (w * h) b))),
         length-take (w * h) b,
       ))
       (λ e. fault_not_end (sym (ap (λ (k : Walk). k.verdict) (copied_short (w * h) b (leb-false (w * h) (length b) e))) ∙ g.ended))
@@ -188,7 +192,8 @@ shorter_right x y =
     (λ e. omega (arith, ap length (shorter_first x y (leb-true (length x) (length y) e)), leb-true (length x) (length y) e))
     (λ e. omega (arith, ap length (shorter_second x y (leb-false (length x) (length y) e))))
 
-pub full_shortest : (w h : ℕ) (q : List ℕ) → (length (full_chunk w h q) ≤ length (chunk FLI_BRUN (brun_body w h q))) × (length (full_chunk w h q) ≤ length (chunk FLI_COPY q))
+pub full_shortest : (w h : ℕ) (q : List ℕ) → (length (full_chunk w h q) ≤ length (chunk FLI_BRUN (brun_body w h q)))
+    × (length (full_chunk w h q) ≤ length (chunk FLI_COPY q))
     × (all_zero q ≡ true → length (full_chunk w h q) ≤ length (chunk FLI_BLACK []))
 unfolding full_chunk
 full_shortest w h q = by_test (all_zero q)

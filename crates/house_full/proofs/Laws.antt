@@ -62,7 +62,8 @@ module _ (w : ℕ) (q : List ℕ) (from left rest : ℕ) (e : left ≡ suc rest)
       ap (λ (k : ℕ). brun_body w k (drop from q)) e ∙ body_more w rest (drop from q)
       ∙ ap₂ (λ (s r : List ℕ). brun_row s ++ brun_body w rest r) (sym (row_at w from q)) (drop-drop w from q)
 
-  pub next_length : length (brun_body w left (drop from q)) ≡ length (brun_row (take (from + w - from) (drop from q))) + length (brun_body w rest (drop (from + w) q))
+  pub next_length : length (brun_body w left (drop from q))
+      ≡ length (brun_row (take (from + w - from) (drop from q))) + length (brun_body w rest (drop (from + w) q))
   next_length = ap length next_row ∙ length-append (brun_row (take (from + w - from) (drop from q))) (brun_body w rest (drop (from + w) q))
 
 -- a store of as many bytes as there are
@@ -136,7 +137,8 @@ module _ {w h : ℕ} {q plan₀ plan : List ℕ} {size from left : ℕ} (m : Mea
       }
 
   pub measuring_done : left ≤ 0 → (size ≡ length (brun_body w h q))
-  measuring_done l = let e : left ≡ 0 = omega arith in omega (arith, m.sized, ap (λ (k : ℕ). length (brun_body w k (drop from q))) e, ap length (body_none w (drop from q)))
+  measuring_done l = let e : left ≡ 0 = omega arith in
+      omega (arith, m.sized, ap (λ (k : ℕ). length (brun_body w k (drop from q))) e, ap length (body_none w (drop from q)))
 
   pub measured_types : Picture w h q → length plan₀ ≡ length q → left ≤ 0 → plan ≡ row_types w h q
   measured_types s long l =
@@ -156,7 +158,15 @@ pub record Filling (w h : ℕ) (q plan out₀ : List ℕ) (at : ℕ) (out : List
 
 pub filling_first : {w h : ℕ} {q plan : List ℕ} (out : List ℕ) (at : ℕ) → Picture w h q → plan ≡ row_types w h q → at + length (brun_body w h q) ≤ length out
     → Filling w h q plan out at out at 0 h
-filling_first out at s p r = record { stored = refl; long = refl; room = r; reached = refl; place = omega (arith, s.pixels); long_plan = ap length p ∙ plan_length s; planned = p }
+filling_first out at s p r = record {
+  stored = refl;
+  long = refl;
+  room = r;
+  reached = refl;
+  place = omega (arith, s.pixels);
+  long_plan = ap length p ∙ plan_length s;
+  planned = p;
+}
 
 module _ {w h : ℕ} {q plan out₀ out : List ℕ} {at here from left : ℕ} (f : Filling w h q plan out₀ at out here from left) where
   pub filled_in : 0 < left → from + w ≤ length q
@@ -269,11 +279,13 @@ module _ (w h : ℕ) (q : List ℕ) where
 
   brun_other : length (brun_body w h q) ≤ length q → other ≡ chunk FLI_BRUN (brun_body w h q)
   unfolding other
-  brun_other l = shorter_first (chunk FLI_BRUN (brun_body w h q)) (chunk FLI_COPY q) (omega (arith, length_chunk FLI_BRUN (brun_body w h q), length_chunk FLI_COPY q))
+  brun_other l = shorter_first (chunk FLI_BRUN (brun_body w h q)) (chunk FLI_COPY q)
+      (omega (arith, length_chunk FLI_BRUN (brun_body w h q), length_chunk FLI_COPY q))
 
   copy_other : length q < length (brun_body w h q) → other ≡ chunk FLI_COPY q
   unfolding other
-  copy_other l = shorter_second (chunk FLI_BRUN (brun_body w h q)) (chunk FLI_COPY q) (omega (arith, length_chunk FLI_BRUN (brun_body w h q), length_chunk FLI_COPY q))
+  copy_other l = shorter_second (chunk FLI_BRUN (brun_body w h q)) (chunk FLI_COPY q)
+      (omega (arith, length_chunk FLI_BRUN (brun_body w h q), length_chunk FLI_COPY q))
 
   other_long : 6 ≤ length other
   other_long =
@@ -320,7 +332,8 @@ module _ (w h : ℕ) (q : List ℕ) where
   -- the full chunk is the chunk of its kind and its body
   pub full_taken : Taken w h q (full_kind w h q) (full_body w h q)
   full_taken =
-      by_kind {C = Taken w h q (full_kind w h q) (full_body w h q)} (λ t. stated FLI_BLACK [] t) (λ t. stated FLI_BRUN (brun_body w h q) t) (λ t. stated FLI_COPY q t)
+      by_kind {C = Taken w h q (full_kind w h q) (full_body w h q)} (λ t. stated FLI_BLACK [] t) (λ t. stated FLI_BRUN (brun_body w h q) t)
+      (λ t. stated FLI_COPY q t)
     where
       stated : (k : ℕ) (b : List ℕ) → Taken w h q k b → Taken w h q (full_kind w h q) (full_body w h q)
       stated k b t = record { kind = refl; body = refl; whole = t.whole ∙ sym (ap₂ chunk t.kind t.body) }
@@ -330,7 +343,8 @@ module _ (w h : ℕ) (q : List ℕ) where
 
   -- rows are planned where it is BRUN
   pub brun_planned : (p : List ℕ) → full_kind w h q ≡ FLI_BRUN → full_plan w h q p ≡ row_types w h q
-  brun_planned p e = by_test (λ b. all_zero q ≡ b → full_plan w h q p ≡ row_types w h q) (all_zero q) (λ _ z. absurd (omega (arith, (black_taken z).kind))) (λ _ z. sym (plan_made w h q p z refl)) refl
+  brun_planned p e = by_test (λ b. all_zero q ≡ b → full_plan w h q p ≡ row_types w h q) (all_zero q)
+      (λ _ z. absurd (omega (arith, (black_taken z).kind))) (λ _ z. sym (plan_made w h q p z refl)) refl
 
   -- told by its kind
   module _ {k : ℕ} (is : k ≡ full_kind w h q) where

@@ -42,7 +42,8 @@ empty (x ∷ l) h = absurd (omega arith)
 
 module _ (b : List ℕ) where
   -- a packet of type t that gives the pixels v, where left columns are left, and rest after it
-  packet_shows : (left rest at t : ℕ) (more v s : List ℕ) (end : ℕ) → drop at b ≡ t ∷ more → 1 ≤ magnitude t → magnitude t + rest ≡ left → data_bytes t ≤ length more
+  packet_shows : (left rest at t : ℕ) (more v s : List ℕ) (end : ℕ) → drop at b ≡ t ∷ more → 1 ≤ magnitude t → magnitude t + rest ≡ left
+      → data_bytes t ≤ length more
       → pixels b (at + 1) t ≡ v → Shows (packets b rest 0 (at + 1 + data_bytes t)) end s → Shows (packets b left 0 at) end (v ++ s)
   packet_shows left rest at t more v s end e some fill ld px after =
       let byte : get_or b at 0 ≡ t = ap (λ (i : ℕ). get_or b i 0) (sym (add-zero at)) ∙ there_byte b (t ∷ more) at 0 t e refl in
@@ -51,7 +52,8 @@ module _ (b : List ℕ) where
       let n : left - magnitude t ≡ rest = omega arith in
       let p : packet_at b at left ≡ Pixels t (magnitude t) (at + 1 + data_bytes t) =
       subst
-      (λ (x : ℕ). 1 ≤ magnitude x → magnitude x ≤ left → at + 1 + data_bytes x ≤ length b → packet_at b at left ≡ Pixels x (magnitude x) (at + 1 + data_bytes x)) byte
+      (λ (x : ℕ). 1 ≤ magnitude x → magnitude x ≤ left → at + 1 + data_bytes x ≤ length b → packet_at b at left
+      ≡ Pixels x (magnitude x) (at + 1 + data_bytes x)) byte
       (packet_whole b at left one) some (omega arith) (omega arith) in
       shows_as (packets_more b left at (omega arith) t (magnitude t) (at + 1 + data_bytes t) p some (omega arith))
       (shows_before (pixels b (at + 1) t) v px (shows_as (ap (λ (k : ℕ). packets b k 0 (at + 1 + data_bytes t)) n) after))
@@ -78,17 +80,20 @@ module _ (b : List ℕ) where
       packet_shows (length (vs ++ s)) (length s) at t (vs ++ (bs ++ more)) vs s end e' (omega arith)
       (omega (arith, length-append vs s)) (omega (arith, length-append vs (bs ++ more)))
       (pixels_copy b (at + 1) t (omega arith) ∙ ap (λ (i : ℕ). take i (drop (at + 1) b)) back ∙ there_take b vs (bs ++ more) (at + 1) (length vs) data' refl)
-      (encoded_shows c (at + 1 + data_bytes t) more end (there_drop b vs (bs ++ more) (at + 1) (data_bytes t) data' (sym d)) (omega (arith, length-append vs bs)))
+      (encoded_shows c (at + 1 + data_bytes t) more end (there_drop b vs (bs ++ more) (at + 1) (data_bytes t) data' (sym d))
+      (omega (arith, length-append vs bs)))
 
   row_shows : (w : ℕ) (s more : List ℕ) (at : ℕ) → length s ≡ w → drop at b ≡ brun_row s ++ more → Shows (row w b at) (at + length (brun_row s)) s
   unfolding brun_row
   row_shows w s more at l e =
       let c = min 255 (length (house s)) in
-      shows_as (row_open w b at (there_long b (c ∷ (house_bytes s ++ more)) at 1 e (omega arith) (omega arith)) ∙ ap (λ (k : ℕ). packets b k 0 (at + 1)) (sym l))
+      shows_as (row_open w b at (there_long b (c ∷ (house_bytes s ++ more)) at 1 e (omega arith) (omega arith))
+      ∙ ap (λ (k : ℕ). packets b k 0 (at + 1)) (sym l))
       (encoded_shows (house_encodes s) (at + 1) more (at + length (brun_row s)) (there_drop b (c ∷ []) (house_bytes s ++ more) at 1 e refl) (omega arith))
 
   -- rows one after the other
-  rows_show : (w h : ℕ) (q : List ℕ) (at end : ℕ) → length q ≡ w * h → drop at b ≡ brun_body w h q → end ≡ at + length (brun_body w h q) → Shows (rows w b h at) end q
+  rows_show : (w h : ℕ) (q : List ℕ) (at end : ℕ) → length q ≡ w * h → drop at b ≡ brun_body w h q → end ≡ at + length (brun_body w h q)
+      → Shows (rows w b h at) end q
   rows_show w zero q at end l e ee =
       shows_as (rows_none w b 0 at (omega arith))
       (record { ended = ap Ends (omega (arith, ap length (body_none w q))); shown = sym (empty q (omega arith)) })
@@ -98,10 +103,12 @@ module _ (b : List ℕ) where
       let e' : drop at b ≡ brun_row s ++ rest = e ∙ body_more w h q in
       let g = row_shows w s rest at (length-take-le w q (omega arith)) e' in
       let n : suc h - 1 ≡ h = omega arith in
-      shows_as (rows_more w b (suc h) at (omega arith) (at + length (brun_row s)) g.ended ∙ ap (λ (k : ℕ). run_before (row w b at).pixels (rows w b k (at + length (brun_row s)))) n)
+      shows_as (rows_more w b (suc h) at (omega arith) (at + length (brun_row s)) g.ended
+      ∙ ap (λ (k : ℕ). run_before (row w b at).pixels (rows w b k (at + length (brun_row s)))) n)
       (subst (λ (x : List ℕ). Shows (run_before (row w b at).pixels (rows w b h (at + length (brun_row s)))) end x) (take-append-drop w q)
       (shows_before (row w b at).pixels s g.shown
-      (rows_show w h (drop w q) (at + length (brun_row s)) end (omega (arith, length-drop w q)) (there_drop b (brun_row s) rest at (length (brun_row s)) e' refl)
+      (rows_show w h (drop w q) (at + length (brun_row s)) end (omega (arith, length-drop w q))
+      (there_drop b (brun_row s) rest at (length (brun_row s)) e' refl)
       (omega (arith, ap length (body_more w h q), length-append (brun_row s) rest)))))
 
 -- a whole picture stored

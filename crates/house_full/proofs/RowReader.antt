@@ -31,13 +31,15 @@ TypeIs b at (Pixels t n end) = (t ≡ get_or b at 0) × (at + 1 ≤ length b)
 
 type_is : (b : List ℕ) (at left : ℕ) (p : BrunStep) → packet_at b at left ≡ p → TypeIs b at p
 unfolding packet_at packet_of
-type_is b at left p e = subst (TypeIs b at) e (go (leb (at + 1) (length b)) (leb 1 (magnitude t)) (leb (magnitude t) left) (leb (at + 1 + data_bytes t) (length b)) refl)
+type_is b at left p e = subst (TypeIs b at) e
+    (go (leb (at + 1) (length b)) (leb 1 (magnitude t)) (leb (magnitude t) left) (leb (at + 1 + data_bytes t) (length b)) refl)
   where
     t : ℕ
     t = get_or b at 0
 
     go : (a z k l : Bool) → leb (at + 1) (length b) ≡ a
-        → TypeIs b at (cond a (cond z (cond k (cond l (Pixels t (magnitude t) (at + 1 + data_bytes t)) (Fault BodyEnds)) (Fault PastWidth)) (Fault ZeroCount)) (Fault BodyEnds))
+        → TypeIs b at (cond a
+        (cond z (cond k (cond l (Pixels t (magnitude t) (at + 1 + data_bytes t)) (Fault BodyEnds)) (Fault PastWidth)) (Fault ZeroCount)) (Fault BodyEnds))
     go false z k l q = tt
     go true false k l q = tt
     go true true false l q = tt
@@ -54,7 +56,8 @@ module _ (b : List ℕ) (i : Bytes b) where
     pub code : Encodes bs px
     pub there : drop at b ≡ bs ++ drop end b
 
-  packet_read : (at t end : ℕ) (px : List ℕ) → t ≡ get_or b at 0 → at + 1 ≤ length b → 1 ≤ magnitude t → at + 1 + data_bytes t ≤ length b → Read px (at + 1 + data_bytes t) end
+  packet_read : (at t end : ℕ) (px : List ℕ) → t ≡ get_or b at 0 → at + 1 ≤ length b → 1 ≤ magnitude t → at + 1 + data_bytes t ≤ length b
+      → Read px (at + 1 + data_bytes t) end
       → Read (pixels b (at + 1) t ++ px) at end
   packet_read at t end px is one some whole r =
       by_test (λ x. Read (pixels b (at + 1) t ++ px) at end) (ltb t 128)
@@ -65,7 +68,8 @@ module _ (b : List ℕ) (i : Bytes b) where
       let n : at + 1 + 1 ≡ at + 1 + data_bytes t = omega (arith, d) in
       record {
         bs = t ∷ (v ∷ r.bs);
-        code = subst (λ (s : List ℕ). Encodes (t ∷ (v ∷ r.bs)) (s ++ px)) (sym (pixels_repeat b (at + 1) t k)) (repeated t v (omega (arith, magnitude_plus t k)) (omega arith) r.code);
+        code = subst (λ (s : List ℕ). Encodes (t ∷ (v ∷ r.bs)) (s ++ px)) (sym (pixels_repeat b (at + 1) t k))
+            (repeated t v (omega (arith, magnitude_plus t k)) (omega arith) r.code);
         there =
             first_byte b at one
             ∙ ap₂ (λ (x : ℕ) (y : List ℕ). x ∷ y) (sym is) (first_byte b (at + 1) (omega (arith, d)))
@@ -92,7 +96,8 @@ module _ (b : List ℕ) (i : Bytes b) where
             ∙ sym (append_assoc vs r.bs (drop end b)));
       })
 
-  packets_read : (left filled at end : ℕ) → filled ≤ left → (packets b left filled at).verdict ≡ verdict.Ends end → Read (packets b left filled at).pixels at end
+  packets_read : (left filled at end : ℕ) → filled ≤ left → (packets b left filled at).verdict ≡ verdict.Ends end
+      → Read (packets b left filled at).pixels at end
   unfolding packets
   packets_read zero filled at end h e = record { bs = []; code = none; there = ap (λ (m : ℕ). drop m b) (same_end e) }
     where
@@ -102,7 +107,8 @@ module _ (b : List ℕ) (i : Bytes b) where
   packets_read (suc left) zero at end h e =
       at_packet (packet_at b at (suc left)) (packet_in b at (suc left) _ refl) (type_is b at (suc left) _ refl) e (λ f to l q. packets_read left f to end l q)
     where
-      at_packet : (p : BrunStep) → PacketIn b at (suc left) p → TypeIs b at p → (after_packet b at p (λ n to. packets b left (n - 1) to)).verdict ≡ verdict.Ends end
+      at_packet : (p : BrunStep) → PacketIn b at (suc left) p → TypeIs b at p → (after_packet b at p (λ n to. packets b left (n - 1) to)).verdict
+          ≡ verdict.Ends end
           → ((f to : ℕ) → f ≤ left → (packets b left f to).verdict ≡ verdict.Ends end → Read (packets b left f to).pixels to end)
           → Read (after_packet b at p (λ n to. packets b left (n - 1) to)).pixels at end
       at_packet (Fault x) j y e ih = fault_not_end e

@@ -18,7 +18,14 @@ use Rattle.house_lc.specs.Line.{line_packets, line}
 
 -- kind 12's numbers
 pub pixels_form : Form 1 3 255
-pixels_form = record { some_unit = omega arith; small_unit = omega arith; some_least = omega arith; small_least = omega arith; some_longest = omega arith; small_longest = omega arith }
+pixels_form = record {
+  some_unit = omega arith;
+  small_unit = omega arith;
+  some_least = omega arith;
+  small_least = omega arith;
+  some_longest = omega arith;
+  small_longest = omega arith;
+}
 
 -- the packet count fits its byte
 pub count_small : (w : ℕ) (r : Cell) → Wide w → length (line_packets w r) < 256
@@ -32,7 +39,8 @@ line_length w r = omega arith
 pub line_unchanged : (w : ℕ) (a : List ℕ) → line w (row a a) ≡ 0 ∷ []
 unfolding line
 line_unchanged w a =
-    ap (λ (ps : List Packet). length ps ∷ bytes ps) (row_stretches 1 3 255 w a a ∙ ap (flat_map (stretch_packets 1 3 255)) (stretches_same 1 w a) ∙ flat_map_nil (stretch_packets 1 3 255))
+    ap (λ (ps : List Packet). length ps ∷ bytes ps)
+    (row_stretches 1 3 255 w a a ∙ ap (flat_map (stretch_packets 1 3 255)) (stretches_same 1 w a) ∙ flat_map_nil (stretch_packets 1 3 255))
     ∙ ap (λ (l : List ℕ). 0 ∷ l) (flat_map_nil packet_bytes)
 
 -- the line of a row, stored at at: its packets are stored, which gave e, and their count c is still to be set in front of them
@@ -56,5 +64,6 @@ line_counted {w} {s} {r} {d} {e} {at} {c} {end} is wide h y =
       inside = here;
       ends = omega (arith, x.ends);
       stored =
-          put_one e at c here ∙ ap (λ (o : List ℕ). put o at (c ∷ [])) x.stored ∙ put_before d (c ∷ []) z at 1 refl (omega arith) ∙ ap (λ (n : ℕ). put d at (n ∷ z)) x.number;
+          put_one e at c here ∙ ap (λ (o : List ℕ). put o at (c ∷ [])) x.stored ∙ put_before d (c ∷ []) z at 1 refl (omega arith)
+          ∙ ap (λ (n : ℕ). put d at (n ∷ z)) x.number;
     }

@@ -55,7 +55,8 @@ module _ (w : ℕ) (b : List ℕ) where
       (gives_followed (λ end. rows w b (length rs) (row + 1) end)
       (line_gives r z.0 z.1 row at pre (olds rs ++ post) (flat_map (line w) rs) there lp)
       (gives_to (omega arith) (append_assoc pre r.new (olds rs ++ post)) refl
-      (rows_give rs z.2 (row + 1) (at + l) (pre ++ r.new) post (there_drop b (line w r) (flat_map (line w) rs) at l there refl) (omega (arith, length-append pre r.new, z.1)))))
+      (rows_give rs z.2 (row + 1) (at + l) (pre ++ r.new) post (there_drop b (line w r) (flat_map (line w) rs) at l there refl)
+      (omega (arith, length-append pre r.new, z.1)))))
 
 -- the body
 
@@ -117,6 +118,8 @@ module _ (w h : ℕ) (p q : List ℕ) where
         let sized-lined = subst (Sized w) (part_cells w h f n p q inside) (sized_take w n (drop f all) (sized_drop w f all sized)) in
         let lo = length_olds w before (sized_take w f all sized) ∙ ap (λ (i : ℕ). w * i) (length-take-le f all (omega (arith, inside, length_cells w h p q))) in
         gives_as
-        (lc_open w h b f n (omega arith) (sym (there_le16 b (le16 n ls) 0 f is)) (sym (there_le16 b ls 2 n (there_drop b (le16 f []) (le16 n ls) 0 2 is refl))) inside
+        (lc_open w h b f n (omega arith) (sym (there_le16 b (le16 n ls) 0 f is))
+        (sym (there_le16 b ls 2 n (there_drop b (le16 f []) (le16 n ls) 0 2 is refl))) inside
         ∙ ap (λ (i : ℕ). rows w b i f 4) (sym (length_cells w n (drop (f * w) p) (drop (f * w) q))))
-        (gives_to (omega arith) was is_to_be (rows_give w b lined sized-lined f 4 (olds before) (olds behind) (there_drop b (le16 f (le16 n [])) ls 0 4 is refl) (omega arith)))
+        (gives_to (omega arith) was is_to_be
+        (rows_give w b lined sized-lined f 4 (olds before) (olds behind) (there_drop b (le16 f (le16 n [])) ls 0 4 is refl) (omega arith)))

@@ -64,7 +64,8 @@ cells_more k n a b =
     let cs = cells k (suc n) a b in
     sym (take-append-drop n cs)
     ∙ ap₂ (λ (x y : List Cell). x ++ y) (take_cells k (suc n) n a b (omega arith))
-    (drop_cells k (suc n) 1 n a b (omega arith) ∙ cells_next k n 0 a b ∙ ap (λ (x : List Cell). row_at k n a b ∷ x) (cells_none k (drop ((n + 1) * k) a) (drop ((n + 1) * k) b)))
+    (drop_cells k (suc n) 1 n a b (omega arith) ∙ cells_next k n 0 a b
+    ∙ ap (λ (x : List Cell). row_at k n a b ∷ x) (cells_none k (drop ((n + 1) * k) a) (drop ((n + 1) * k) b)))
 
 -- the rows from the bottom up
 

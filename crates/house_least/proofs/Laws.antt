@@ -161,7 +161,8 @@ module _ {A M : Type 0} (span cost : M → ℕ) (moves : List A → List M)
             let e : B (a ∷ s) ≡ to (a ∷ s) c.0 = best_cons a s ∙ c.2 ∙ at c.0 (first_mem c.1) in (
               c.0,
               record {
-                first = first_same (onward span cost moves (table span cost moves s)) (λ q. (to (a ∷ s) q).total) (λ q i. ap (λ (b : Best M). b.total) (at q i)) c.1;
+                first = first_same (onward span cost moves (table span cost moves s)) (λ q. (to (a ∷ s) q).total)
+                    (λ q i. ap (λ (b : Best M). b.total) (at q i)) c.1;
                 total = ap (λ (b : Best M). b.total) e;
                 path = ap (λ (b : Best M). b.path) e;
               },
@@ -183,7 +184,8 @@ module _ {A M : Type 0} (span cost : M → ℕ) (moves : List A → List M)
     pub is_way : (s : List A) → Way span cost moves s (best span cost moves s).path
     is_way = by_rests (λ s. Way span cost moves s (B s).path) (rw best_nil stop) more
       where
-        more : (a : A) (s : List A) → ((n : ℕ) → 1 ≤ n → Way span cost moves (drop n (a ∷ s)) (B (drop n (a ∷ s))).path) → Way span cost moves (a ∷ s) (B (a ∷ s)).path
+        more : (a : A) (s : List A) → ((n : ℕ) → 1 ≤ n → Way span cost moves (drop n (a ∷ s)) (B (drop n (a ∷ s))).path)
+            → Way span cost moves (a ∷ s) (B (a ∷ s)).path
         more a s shorter =
             let (k, w) = step a s in
             let i = first_mem w.first in
@@ -197,7 +199,8 @@ module _ {A M : Type 0} (span cost : M → ℕ) (moves : List A → List M)
     unfolding sum
     best_cost = by_rests (λ s. sum cost (B s).path ≡ least_cost s) sum_nil more
       where
-        more : (a : A) (s : List A) → ((n : ℕ) → 1 ≤ n → sum cost (B (drop n (a ∷ s))).path ≡ least_cost (drop n (a ∷ s))) → sum cost (B (a ∷ s)).path ≡ least_cost (a ∷ s)
+        more : (a : A) (s : List A) → ((n : ℕ) → 1 ≤ n → sum cost (B (drop n (a ∷ s))).path ≡ least_cost (drop n (a ∷ s)))
+            → sum cost (B (a ∷ s)).path ≡ least_cost (a ∷ s)
         more a s shorter =
             let (k, w) = step a s in
             let i = first_mem w.first in

@@ -45,7 +45,8 @@ module _ (least : ℕ) (three : 3 ≤ least) where
   after_until [] h = omega (arith, count_none)
   after_until (u ∷ us) h =
       let further = after_until us (λ vs l. h vs (omega (arith, l))) in
-      by_test (λ t. 2 * count (drop (cond t 0 (suc (up_to_repeat least us))) (u ∷ us)) ≤ length (drop (cond t 0 (suc (up_to_repeat least us))) (u ∷ us))) (repeats least (u ∷ us))
+      by_test (λ t. 2 * count (drop (cond t 0 (suc (up_to_repeat least us))) (u ∷ us)) ≤ length
+      (drop (cond t 0 (suc (up_to_repeat least us))) (u ∷ us))) (repeats least (u ∷ us))
       (λ e. h (u ∷ us) (omega arith) e) (λ e. further)
 
   -- a packet of n units, and those after it
@@ -119,7 +120,13 @@ module _ (least : ℕ) (three : 3 ≤ least) where
     unfolding flat_map
     gapped_count [] a = omega arith
     gapped_count (s ∷ ss) a =
-        omega (arith, length-append (stretch_packets 1 least longest s) (flat_map (stretch_packets 1 least longest) ss), stretch_count s, gapped_count ss a.1, a.0)
+        omega (
+          arith,
+          length-append (stretch_packets 1 least longest s) (flat_map (stretch_packets 1 least longest) ss),
+          stretch_count s,
+          gapped_count ss a.1,
+          a.0,
+        )
 
     apart_count : (ss : List Stretch) → Apart ss → 2 * length (flat_map (stretch_packets 1 least longest) ss) ≤ taken ss + 1
     unfolding flat_map

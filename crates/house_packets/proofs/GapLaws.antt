@@ -84,7 +84,8 @@ module _ (unit least : ℕ) (b : List ℕ) (x₀ m₀ k₀ : ℕ) (out₀ : List
       lent = take (i * unit + l - i * unit) (drop (i * unit) b)
 
       whole : bytes (unit_packets least skip 0 (units_at unit b i left)) ≡ (skip ∷ t ∷ lent) ++ more
-      whole = packets_bytes unit least b i left n t l p skip ∙ ap (λ (j : ℕ). (skip ∷ t ∷ take j (drop (i * unit) b)) ++ more) (sym (add-sub_cancel_left (i * unit) l))
+      whole = packets_bytes unit least b i left n t l p skip
+          ∙ ap (λ (j : ℕ). (skip ∷ t ∷ take j (drop (i * unit) b)) ++ more) (sym (add-sub_cancel_left (i * unit) l))
 
       pub storing_room : here + 2 + length lent ≤ length out
       storing_room = omega (arith, ahead_room out₀ at (bytes all) r.ahead (skip ∷ t ∷ lent) more whole)
@@ -123,7 +124,12 @@ module _ (least longest g s : ℕ) (vs : List (List ℕ)) (es : s ≡ shortening
       ∙ ap (λ (l : List ℕ). l ++ bytes (unit_packets least (g - longest * s) 0 vs)) (empty_bytes longest s)
 
   pub gap_length : length (bytes (gap_packets least longest g vs)) ≡ 2 * s + length (bytes (unit_packets least (g - longest * s) 0 vs))
-  gap_length = omega (arith, ap length gap_bytes, length-append (empty_packets longest s) (bytes (unit_packets least (g - longest * s) 0 vs)), length_empty longest s)
+  gap_length = omega (
+    arith,
+    ap length gap_bytes,
+    length-append (empty_packets longest s) (bytes (unit_packets least (g - longest * s) 0 vs)),
+    length_empty longest s,
+  )
 
   -- the skip left does not bear on it
   pub gap_size : length (bytes (gap_packets least longest g vs)) ≡ 2 * s + length (bytes (unit_packets least 0 0 vs))
@@ -136,7 +142,8 @@ module _ (least longest g s : ℕ) (vs : List (List ℕ)) (es : s ≡ shortening
     number = omega (arith, y.number, gap_count);
     ends = omega (arith, y.ends, gap_length);
     stored =
-        put_then d e f (empty_packets longest s) (bytes (unit_packets least (g - longest * s) 0 vs)) at (2 * s) (length_empty longest s) (omega (arith, gap_length)) x y.stored
+        put_then d e f (empty_packets longest s) (bytes (unit_packets least (g - longest * s) 0 vs)) at (2 * s) (length_empty longest s)
+        (omega (arith, gap_length)) x y.stored
         ∙ ap (put d at) (sym gap_bytes);
   }
 

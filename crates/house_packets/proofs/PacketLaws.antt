@@ -33,7 +33,8 @@ module _ (least k : ℕ) (vs : List (List ℕ)) where
       × (length (packet_bytes (first_packet least k vs)) ≡ length (packet_bytes (first_packet least 0 vs)))
   unfolding first_packet packet_bytes
   packet_sizes =
-      by_test (λ t. (units_of (either k t) ≡ units_of (either 0 t)) × (length (packet_bytes (either k t)) ≡ length (packet_bytes (either 0 t)))) (repeats least vs)
+      by_test (λ t. (units_of (either k t) ≡ units_of (either 0 t)) × (length (packet_bytes (either k t)) ≡ length (packet_bytes (either 0 t))))
+      (repeats least vs)
       (λ e. (refl, refl))
       (λ e. (refl, refl))
 
@@ -78,15 +79,21 @@ module _ (unit least : ℕ) (some_unit : 1 ≤ unit) (small : unit ≤ 2) (b : L
       }
 
   -- a copy: n units before the first repeat, which the first 127 units and least - 1 after them decide
-  pub copy_at : (n s : ℕ) → 1 ≤ least → repeats least (units_at unit b x m) ≡ false → s ≡ up_to_repeat least (units_at unit b x (min (126 + least) m)) → n ≡ min 127 s
+  pub copy_at : (n s : ℕ) → 1 ≤ least → repeats least (units_at unit b x m) ≡ false → s
+      ≡ up_to_repeat least (units_at unit b x (min (126 + least) m)) → n ≡ min 127 s
       → PacketAt unit least b x m n n (n * unit)
   copy_at n s some_least e es en =
       let vs = units_at unit b x m in
       let decide : min 127 (up_to_repeat least (units_at unit b x (min (126 + least) m))) ≡ min 127 (up_to_repeat least vs) =
-      ap (λ (us : List (List ℕ)). min 127 (up_to_repeat least us)) (sym (take_units unit b x m (126 + least))) ∙ until_least least some_least 127 (126 + least) vs (omega arith) in
+      ap (λ (us : List (List ℕ)). min 127 (up_to_repeat least us)) (sym (take_units unit b x m (126 + least)))
+      ∙ until_least least some_least 127 (126 + least) vs (omega arith) in
       let same : n ≡ min 127 (up_to_repeat least vs) = en ∙ ap (min 127) es ∙ decide in
       let some : 1 ≤ up_to_repeat least vs =
-      omega (arith, ap (up_to_repeat least) (first_unit unit b x m any), until_some least (unit_at unit b x) (units_at unit b (x + 1) (m - 1)) (ap (repeats least) (sym (first_unit unit b x m any)) ∙ e)) in
+      omega (
+        arith,
+        ap (up_to_repeat least) (first_unit unit b x m any),
+        until_some least (unit_at unit b x) (units_at unit b (x + 1) (m - 1)) (ap (repeats least) (sym (first_unit unit b x m any)) ∙ e),
+      ) in
       let high = until_le least vs in
       let long = length_units unit b x m in
       let inside : n ≤ m = omega arith in
@@ -96,7 +103,8 @@ module _ (unit least : ℕ) (some_unit : 1 ≤ unit) (small : unit ≤ 2) (b : L
       (λ k. packet_copy least k vs e ∙ ap (λ (j : ℕ). copy k (take j vs)) (sym same) ∙ ap (copy k) these) in
       record {
         units = sym (ap units_of (is 0) ∙ length_units unit b x n);
-        bytes = λ k. ap packet_bytes (is k) ∙ copy_bytes k (units_at unit b x n) ∙ ap₂ (λ (j : ℕ) (l : List ℕ). k ∷ j ∷ l) (length_units unit b x n) (flat_units unit b x n);
+        bytes = λ k. ap packet_bytes (is k) ∙ copy_bytes k (units_at unit b x n)
+            ∙ ap₂ (λ (j : ℕ) (l : List ℕ). k ∷ j ∷ l) (length_units unit b x n) (flat_units unit b x n);
         some = omega arith;
         inside = inside;
         byte = omega arith;
@@ -123,12 +131,14 @@ module _ (least : ℕ) where
 
   -- how many packets, and how many bytes, don't hang on the skip
   pub packets_sizes : (k : ℕ) (vs : List (List ℕ))
-      → (length (unit_packets least k 0 vs) ≡ length (unit_packets least 0 0 vs)) × (length (bytes (unit_packets least k 0 vs)) ≡ length (bytes (unit_packets least 0 0 vs)))
+      → (length (unit_packets least k 0 vs) ≡ length (unit_packets least 0 0 vs))
+      × (length (bytes (unit_packets least k 0 vs)) ≡ length (bytes (unit_packets least 0 0 vs)))
   unfolding unit_packets flat_map
   packets_sizes k [] = (refl, refl)
   packets_sizes k (v ∷ us) =
       let p = packet_sizes least k (v ∷ us) in
-      let e : unit_packets least 0 (pred (units_of (first_packet least k (v ∷ us)))) us ≡ unit_packets least 0 (pred (units_of (first_packet least 0 (v ∷ us)))) us =
+      let e : unit_packets least 0 (pred (units_of (first_packet least k (v ∷ us)))) us
+      ≡ unit_packets least 0 (pred (units_of (first_packet least 0 (v ∷ us)))) us =
       ap (λ (j : ℕ). unit_packets least 0 (pred j) us) p.0 in (
         ap (λ (ps : List Packet). suc (length ps)) e,
         omega (
@@ -152,7 +162,8 @@ module _ (unit least : ℕ) (b : List ℕ) (x m n t l : ℕ) (p : PacketAt unit 
       ap (unit_packets least k 0) first
       ∙ packets_next least k n (unit_at unit b x) (units_at unit b (x + 1) (m - 1)) p.some
       (ap (λ (vs : List (List ℕ)). units_of (first_packet least k vs)) (sym first) ∙ (packet_sizes least k (units_at unit b x m)).0 ∙ sym p.units)
-      ∙ ap₂ (λ (vs us : List (List ℕ)). first_packet least k vs ∷ unit_packets least 0 0 us) (sym first) (ap (drop n) (sym first) ∙ drop_units unit b x m n p.inside)
+      ∙ ap₂ (λ (vs us : List (List ℕ)). first_packet least k vs ∷ unit_packets least 0 0 us) (sym first)
+      (ap (drop n) (sym first) ∙ drop_units unit b x m n p.inside)
 
   pub packets_count : (k : ℕ) → length (unit_packets least k 0 (units_at unit b x m)) ≡ 1 + length after
   packets_count k = omega (arith, ap length (packets_at k))

@@ -22,7 +22,8 @@ back : (n : ℕ) → n ≤ 127 → 256 - (256 - n) ≡ n
 back n h = omega arith
 
 module _ (unit w : ℕ) (b : List ℕ) where
-  packet_there : (at x k t : ℕ) → at + 2 ≤ length b → get_or b at 0 ≡ k → get_or b (at + 1) 0 ≡ t → x + k + unit * magnitude t ≤ w → at + 2 + data_bytes unit t ≤ length b
+  packet_there : (at x k t : ℕ) → at + 2 ≤ length b → get_or b at 0 ≡ k → get_or b (at + 1) 0 ≡ t → x + k + unit * magnitude t ≤ w
+      → at + 2 + data_bytes unit t ≤ length b
       → packet_at unit w b at x ≡ Pixels t (x + k) (x + k + unit * magnitude t) (at + 2 + data_bytes unit t)
   unfolding packet_at packet_of
   packet_there at x k t two ek et fits there =
@@ -61,7 +62,8 @@ module _ (unit w : ℕ) (b : List ℕ) where
       → Gives (walk.packets unit w b (length ps) row at x) end (pre ++ (s ++ post)) (pre ++ (t ++ post))
   unfolding flat_map packet_bytes
   packets_give (done {s} {t} q) row at x more pre post end e ee fits le =
-      gives_as (packets_none unit w b 0 row at x (omega arith)) (gives_to (omega arith) refl (ap (λ (l : List ℕ). pre ++ (l ++ post)) q) (gives_ends at (pre ++ (s ++ post))))
+      gives_as (packets_none unit w b 0 row at x (omega arith))
+      (gives_to (omega arith) refl (ap (λ (l : List ℕ). pre ++ (l ++ post)) q) (gives_ends at (pre ++ (s ++ post))))
   packets_give (copied {ps} {s} {t} {k} {vs} gap old s' t' g m some o n es et r) row at x more pre post end e ee fits le =
       let c = length vs in
       let bs = bytes ps ++ more in

@@ -22,7 +22,8 @@ module _ (unit least longest : ℕ) where
       flat_map_append packet_bytes (stretch_packets unit least longest s) (flat_map (stretch_packets unit least longest) ss)
       ∙ ap (λ (l : List ℕ). stretch_bytes s ++ l) (stretches_bytes ss)
 
-  pub row_stretches : (n : ℕ) (a b : List ℕ) → row_packets unit least longest n a b ≡ flat_map (stretch_packets unit least longest) (stretches (cells unit n a b))
+  pub row_stretches : (n : ℕ) (a b : List ℕ) → row_packets unit least longest n a b
+      ≡ flat_map (stretch_packets unit least longest) (stretches (cells unit n a b))
   unfolding row_packets
   row_stretches n a b = refl
 

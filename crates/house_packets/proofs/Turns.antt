@@ -97,7 +97,8 @@ module _ (unit least longest : ℕ) (form : Form unit least longest) where
         let some : 1 ≤ n = omega (arith, equals_itself v (nexts cs)) in
         let inside : n ≤ length all = omega (arith, equals_le v (nexts all), length-map all (λ (c : Cell). c.new)) in
         let like : news (take n all) ≡ repeated n v = equals_repeated n v all (omega arith) in
-        let lo : length (olds (take n all)) ≡ unit * n = length_olds unit (take n all) (sized_take unit n all z) ∙ ap (λ (j : ℕ). unit * j) (length-take-le n all inside) in
+        let lo : length (olds (take n all)) ≡ unit * n = length_olds unit (take n all) (sized_take unit n all z)
+        ∙ ap (λ (j : ℕ). unit * j) (length-take-le n all inside) in
         subst (λ (p : Packet). First p gap all) (sym (packet_repeat least k (nexts all) e))
         (record {
           n = n;
@@ -105,7 +106,8 @@ module _ (unit least longest : ℕ) (form : Form unit least longest) where
           inside = inside;
           is_units = refl;
           turns = λ {ps} {s} {t} r.
-              again gap (olds (take n all)) s t g (some_pixels n (length (olds (take n all))) some lo) (omega arith) lo z.1 refl (ap (λ (l : List ℕ). gap ++ (l ++ t)) like) r;
+              again gap (olds (take n all)) s t g (some_pixels n (length (olds (take n all))) some lo) (omega arith) lo z.1 refl
+              (ap (λ (l : List ℕ). gap ++ (l ++ t)) like) r;
         })
 
     -- a copy
@@ -130,7 +132,8 @@ module _ (unit least longest : ℕ) (form : Form unit least longest) where
           inside = inside;
           is_units = long;
           turns = λ {ps} {s} {t} r.
-              copied {vs = vs} gap (olds (take n all)) s t g (omega arith) (omega (arith, some_pixels (length vs) (length (olds (take n all))) (omega arith) lo)) lo (ap length flat ∙ ln)
+              copied {vs = vs} gap (olds (take n all)) s t g (omega arith)
+              (omega (arith, some_pixels (length vs) (length (olds (take n all))) (omega arith) lo)) lo (ap length flat ∙ ln)
               refl (ap (λ (l : List ℕ). gap ++ (l ++ t)) (sym flat)) r;
         })
 
@@ -156,13 +159,15 @@ module _ (unit least longest : ℕ) (form : Form unit least longest) where
     joined gap k c cs f q =
         turns_as
         (ap (λ (l : List Packet). l ++ ps)
-        (sym (packets_next least k f.n c.new (nexts cs) f.some f.is_units ∙ ap (λ (us : List (List ℕ)). first_packet least k (nexts (c ∷ cs)) ∷ unit_packets least 0 0 us) (drop_nexts f.n (c ∷ cs)))))
+        (sym (packets_next least k f.n c.new (nexts cs) f.some f.is_units
+        ∙ ap (λ (us : List (List ℕ)). first_packet least k (nexts (c ∷ cs)) ∷ unit_packets least 0 0 us) (drop_nexts f.n (c ∷ cs)))))
         (ap (λ (l : List ℕ). gap ++ l) (olds_parts f.n (c ∷ cs) s))
         (ap (λ (l : List ℕ). gap ++ l) (news_parts f.n (c ∷ cs) t))
         (f.turns q)
 
     rest_of : (m : ℕ) (cs : List Cell) → length cs ≤ m → Sized unit cs
-        → ((d : Cell) (ds : List Cell) → length ds < m → Sized unit (d ∷ ds) → Turns unit (unit_packets least 0 0 (nexts (d ∷ ds)) ++ ps) (olds (d ∷ ds) ++ s) (news (d ∷ ds) ++ t))
+        → ((d : Cell) (ds : List Cell) → length ds < m → Sized unit (d ∷ ds)
+        → Turns unit (unit_packets least 0 0 (nexts (d ∷ ds)) ++ ps) (olds (d ∷ ds) ++ s) (news (d ∷ ds) ++ t))
         → Turns unit (unit_packets least 0 0 (nexts cs) ++ ps) (olds cs ++ s) (news cs ++ t)
     unfolding unit_packets flat_map
     rest_of m [] h z ih = r
@@ -173,7 +178,8 @@ module _ (unit least longest : ℕ) (form : Form unit least longest) where
     units_turn zero gap k c cs h z g =
         let f = first gap k c cs z g in
         joined gap k c cs f
-        (rest_of 0 (drop f.n (c ∷ cs)) (omega (arith, length-drop f.n (c ∷ cs), f.some)) (sized_drop unit f.n (c ∷ cs) z) (λ d ds (l : length ds < 0) y. absurd (omega arith)))
+        (rest_of 0 (drop f.n (c ∷ cs)) (omega (arith, length-drop f.n (c ∷ cs), f.some)) (sized_drop unit f.n (c ∷ cs) z)
+        (λ d ds (l : length ds < 0) y. absurd (omega arith)))
     units_turn (suc m) gap k c cs h z g =
         let f = first gap k c cs z g in
         joined gap k c cs f
@@ -198,7 +204,8 @@ module _ (unit least longest : ℕ) (form : Form unit least longest) where
       (length-take-le longest gap (omega arith)) (omega arith) (omega (arith, form.some_longest)) (omega arith) (omega arith)
       (ap (λ (l : List ℕ). l ++ s) (sym here) ∙ append_assoc (take longest gap) (drop longest gap) s)
       (ap (λ (l : List ℕ). l ++ t) (sym here) ∙ append_assoc (take longest gap) (drop longest gap) t)
-      (shortened m (drop longest gap) (omega (arith, length-drop longest gap)) s t (turns_as refl (ap (λ (l : List ℕ). l ++ s) further) (ap (λ (l : List ℕ). l ++ t) further) r))
+      (shortened m (drop longest gap) (omega (arith, length-drop longest gap)) s t
+      (turns_as refl (ap (λ (l : List ℕ). l ++ s) further) (ap (λ (l : List ℕ). l ++ t) further) r))
     where
       one_more : (m : ℕ) → longest * suc m ≡ longest + longest * m
       one_more m = omega arith
@@ -208,7 +215,8 @@ module _ (unit least longest : ℕ) (form : Form unit least longest) where
   shortenings_le g = omega (arith, mul-div-le (g - 1) longest)
 
   -- the packets of a row
-  pub packets_turn : {ss : List Stretch} {cs : List Cell} → Split ss cs → Sized unit cs → Turns unit (flat_map (stretch_packets unit least longest) ss) (olds cs) (news cs)
+  pub packets_turn : {ss : List Stretch} {cs : List Cell} → Split ss cs → Sized unit cs
+      → Turns unit (flat_map (stretch_packets unit least longest) ss) (olds cs) (news cs)
   unfolding flat_map stretch_packets gap_packets
   packets_turn (rest e) z = done e
   packets_turn (part {ss} still cs more c e m) z =
@@ -217,7 +225,8 @@ module _ (unit least longest : ℕ) (form : Form unit least longest) where
       let g = length_olds unit still zs.0 in
       let n = shortenings longest (unit * length still) in
       let short = shortenings_le (unit * length still) in
-      turns_as (sym (append_assoc (replicate n (copy longest [])) (unit_packets least (unit * length still - longest * n) 0 (nexts (c ∷ cs))) (flat_map (stretch_packets unit least longest) ss)))
+      turns_as (sym (append_assoc (replicate n (copy longest [])) (unit_packets least (unit * length still - longest * n) 0 (nexts (c ∷ cs)))
+      (flat_map (stretch_packets unit least longest) ss)))
       (sym (olds_append still ((c ∷ cs) ++ more) ∙ ap (λ (l : List ℕ). olds still ++ l) (olds_append (c ∷ cs) more)))
       (sym (news_append still ((c ∷ cs) ++ more) ∙ ap₂ (λ (a b : List ℕ). a ++ b) (sym e) (news_append (c ∷ cs) more)))
       (shortened n (olds still) (omega (arith, g)) (olds (c ∷ cs) ++ olds more) (news (c ∷ cs) ++ news more)

@@ -47,7 +47,8 @@ module _ (unit : ℕ) (b : List ℕ) where
   flat_units x (suc m) =
       let z : x * unit + unit ≡ (x + 1) * unit = omega arith in
       let y : unit + m * unit ≡ suc m * unit = omega arith in
-      ap (λ (l : List ℕ). unit_at unit b x ++ l) (flat_units (x + 1) m ∙ ap (λ (j : ℕ). take (m * unit) (drop j b)) (sym z) ∙ ap (take (m * unit)) (sym (drop-drop unit (x * unit) b)))
+      ap (λ (l : List ℕ). unit_at unit b x ++ l)
+      (flat_units (x + 1) m ∙ ap (λ (j : ℕ). take (m * unit) (drop j b)) (sym z) ∙ ap (take (m * unit)) (sym (drop-drop unit (x * unit) b)))
       ∙ sym (take-add unit (m * unit) (drop (x * unit) b)) ∙ ap (λ (j : ℕ). take j (drop (x * unit) b)) y
 
   pub first_unit : (x m : ℕ) → 1 ≤ m → units_at unit b x m ≡ unit_at unit b x ∷ units_at unit b (x + 1) (m - 1)
@@ -109,7 +110,8 @@ module _ (b : List ℕ) (i j : ℕ) where
       unfolding same
       unit_two u =
           let two : unit ≡ 2 = omega (arith, u) in
-          rw (two, two_bytes i (omega arith), two_bytes j (omega arith)) (simp (eq-eqb (get_or b i 0) (get_or b j 0) e) (cond_itself (eqb (get_or b (i + 1) 0) (get_or b (j + 1) 0))))
+          rw (two, two_bytes i (omega arith), two_bytes j (omega arith))
+          (simp (eq-eqb (get_or b i 0) (get_or b j 0) e) (cond_itself (eqb (get_or b (i + 1) 0) (get_or b (j + 1) 0))))
 
 -- equal units
 
@@ -188,17 +190,21 @@ module _ (least : ℕ) where
       let v = unit_at unit b x in
       let us = units_at unit b (x + 1) (m - 1) in
       let fits : min (least - 1) (m - 1) ≡ least - 1 = omega arith in
-      let these : units_at unit b (x + 1) (least - 1) ≡ take (least - 1) us = sym (take_units unit b (x + 1) (m - 1) (least - 1) ∙ ap (units_at unit b (x + 1)) fits) in
+      let these : units_at unit b (x + 1) (least - 1) ≡ take (least - 1) us =
+      sym (take_units unit b (x + 1) (m - 1) (least - 1) ∙ ap (units_at unit b (x + 1)) fits) in
       let n-is : n ≡ min (least - 1) (equals v us) = e ∙ ap (equals v) these ∙ equals_least v (least - 1) us in
       by_test (λ t. t ≡ repeats least (units_at unit b x m)) (eqb n (least - 1))
-      (λ f. sym (ap (repeats least) (first_unit unit b x m (omega arith)) ∙ repeats_front v us ∙ le-leb least (suc (equals v us)) (omega (arith, eqb-true n (least - 1) f))))
-      (λ f. sym (ap (repeats least) (first_unit unit b x m (omega arith)) ∙ repeats_front v us ∙ lt-leb least (suc (equals v us)) (omega (arith, eqb-false n (least - 1) f))))
+      (λ f. sym (ap (repeats least) (first_unit unit b x m (omega arith)) ∙ repeats_front v us
+      ∙ le-leb least (suc (equals v us)) (omega (arith, eqb-true n (least - 1) f))))
+      (λ f. sym (ap (repeats least) (first_unit unit b x m (omega arith)) ∙ repeats_front v us
+      ∙ lt-leb least (suc (equals v us)) (omega (arith, eqb-false n (least - 1) f))))
 
   until_none : up_to_repeat least [] ≡ 0
   unfolding up_to_repeat
   until_none = refl
 
-  pub until_front : (v : List ℕ) (us : List (List ℕ)) (t : Bool) → repeats least (v ∷ us) ≡ t → up_to_repeat least (v ∷ us) ≡ cond t 0 (suc (up_to_repeat least us))
+  pub until_front : (v : List ℕ) (us : List (List ℕ)) (t : Bool) → repeats least (v ∷ us) ≡ t → up_to_repeat least (v ∷ us)
+      ≡ cond t 0 (suc (up_to_repeat least us))
   unfolding up_to_repeat
   until_front v us t e = ap (λ (s : Bool). cond s 0 (suc (up_to_repeat least us))) e
 
@@ -246,10 +252,12 @@ module _ (least : ℕ) where
         record { high = omega arith; so_far = omega (arith, ap (up_to_repeat least) e) }
 
     module _ (j : ℕ) (r : Single j) (s : Bool) (h : j < m) (e : s ≡ repeats least (units_at unit b (x + j) (m - j))) where
-      here_single : (t : Bool) → s ≡ t → up_to_repeat least (units_at unit b (x + j) (m - j)) ≡ cond t 0 (suc (up_to_repeat least (units_at unit b (x + (j + 1)) (m - (j + 1)))))
+      here_single : (t : Bool) → s ≡ t → up_to_repeat least (units_at unit b (x + j) (m - j))
+          ≡ cond t 0 (suc (up_to_repeat least (units_at unit b (x + (j + 1)) (m - (j + 1)))))
       here_single t f =
           ap (up_to_repeat least) (next_unit unit b x m j h)
-          ∙ until_front (unit_at unit b (x + j)) (units_at unit b (x + (j + 1)) (m - (j + 1))) t (ap (repeats least) (sym (next_unit unit b x m j h)) ∙ sym e ∙ f)
+          ∙ until_front (unit_at unit b (x + j)) (units_at unit b (x + (j + 1)) (m - (j + 1))) t
+          (ap (repeats least) (sym (next_unit unit b x m j h)) ∙ sym e ∙ f)
 
       pub single_on : s ≡ false → Single (j + 1)
       single_on f = record { high = omega arith; so_far = omega (arith, r.so_far, here_single false f) }

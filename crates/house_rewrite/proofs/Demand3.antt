@@ -1,7 +1,8 @@
 -- Demand 3, all of it: `demand3`, whose parts are the fields of `Demand3` (specs/Demand3.antt), one for each of its sentences.
 -- The idea: a frame that is accepted gives a state t, and with room enough its rewrite writes exactly the house frame from the previous state to t (`wrote`).
 -- Done, and equal bytes for equal states, follow at once. The house frame reads back (`house_reads_back`), so equal bytes come from equal states,
--- and rewriting it finds t again. Its picture chunk is no longer than the full chunk, and that than any single BLACK, BRUN or COPY chunk that gives t's picture.
+-- and rewriting it finds t again. Its picture chunk is no longer than the full chunk, and that than any single BLACK, BRUN or COPY chunk that gives
+-- t's picture.
 use mathlib.Core.Path.{◌≡◌, refl, sym, ap, ap₂, ◌∙◌, subst}
 use mathlib.Core.List.{List, [], ◌∷◌, ◌++◌, flatten, append-nil}
 use mathlib.Core.Bool.{Bool, true, false, cond}
@@ -218,7 +219,8 @@ module _ (z : Size) (s t : State) (zs : ByteState z s) (zt : ByteState z t) (dif
 full_shorter : (z : Size) (f : FrameWalk) (p q : List ℕ) (kind size : ℕ) → length p ≡ area z → FullKind kind → Single z f kind size → applied f.pixels p ≡ q
     → length (full_chunk z.width z.height q) ≤ size
 full_shorter z f p q kind size lp k c e =
-    go k c.ended (ap (λ (l : List Write). applied l p) (sym (append-nil (sub_chunk z kind c.body).pixels)) ∙ ap (λ (l : List Write). applied l p) (sym c.pixels) ∙ e)
+    go k c.ended (ap (λ (l : List Write). applied l p) (sym (append-nil (sub_chunk z kind c.body).pixels))
+    ∙ ap (λ (l : List Write). applied l p) (sym c.pixels) ∙ e)
   where
     least : FullLeast z.width z.height c.body p q c.end
     least = full_least z.width z.height c.body p q c.end lp
@@ -243,7 +245,8 @@ full_shorter z f p q kind size lp k c e =
           length_chunk FLI_BRUN c.body,
           least.brun_chunk
               (record {
-                ended = judged_ends (length c.body) (brun z.width z.height c.body).verdict c.end (sym (ap (λ (x : ChunkWalk). x.verdict) (brun_walk z c.body)) ∙ v);
+                ended = judged_ends (length c.body) (brun z.width z.height c.body).verdict c.end
+                    (sym (ap (λ (x : ChunkWalk). x.verdict) (brun_walk z c.body)) ∙ v);
                 result = sym (ap (λ (x : ChunkWalk). applied x.pixels p) (brun_walk z c.body)) ∙ r;
               }),
         )
@@ -333,7 +336,8 @@ module _ (z : Size) (previous : State) (bp : Bytes previous.picture) where
     again_part work' out' =
         subst
         (λ (x : List ℕ).
-        RoomEnough (rewrite_frame x z previous work' out') → ((n : ℕ) × ((rewrite_frame x z previous work' out').said ≡ done (n ∷ []))) × (wrote x work' out' ≡ x))
+        RoomEnough (rewrite_frame x z previous work' out') → ((n : ℕ) × ((rewrite_frame x z previous work' out').said ≡ done (n ∷ [])))
+        × (wrote x work' out' ≡ x))
         (sym wrote_house.bytes)
         (λ (r : RoomEnough (rewrite_frame (leads b) z previous work' out')).
         let o = rewrite_wrote z previous (leads b) work' out' again_taken r in
@@ -367,7 +371,8 @@ module _ (z : Size) (previous : State) (bp : Bytes previous.picture) where
         arith,
         this,
         picture_short z old.picture (new b).picture,
-        full_shorter z (frame z c) old.picture (new b).picture kind size (was_exact z previous c tc).picture.pixels f (frame_single z c kind size tc.answer one) pictures,
+        full_shorter z (frame z c) old.picture (new b).picture kind size (was_exact z previous c tc).picture.pixels f
+            (frame_single z c kind size tc.answer one) pictures,
       )
 
   room_part : (b : List ℕ) (work : State) (out : List ℕ) → Bytes b → Accepted z previous b → area z ≤ length work.picture → 768 ≤ length work.palette
@@ -382,7 +387,8 @@ module _ (z : Size) (previous : State) (bp : Bytes previous.picture) where
       ∙ ap (λ (c : Bool). (tested c (leads b) out).said) (le-leb (length (leads b)) (length out) (omega arith)) in
       record { no_short_slice = λ place f. refused_not_done (sym f ∙ e); no_short_output = λ place f. refused_not_done (sym f ∙ e) }
 
-  known : (b : List ℕ) (work : State) (out : List ℕ) → Bytes b → Accepted z previous b → RoomEnough (rewrite_frame b z previous work out) → Known z previous b work out
+  known : (b : List ℕ) (work : State) (out : List ℕ) → Bytes b → Accepted z previous b → RoomEnough (rewrite_frame b z previous work out)
+      → Known z previous b work out
   known b work out bb a room = record { bytes = bb; accepted = a; room = room }
 
   pub demand3 : Demand3 z previous

@@ -48,7 +48,10 @@ pub data Described : List (List ℕ) → List Sub → Type 0 where
   more : {subs : List (List ℕ)} {ks : List Sub} (kind : ℕ) (body : List ℕ) → 6 + length body < 4294967296 → Described subs ks
       → Described (chunk kind body ∷ subs) (record { kind = kind; size = 6 + length body } ∷ ks)
 
-subs_more : (b : List ℕ) (n at kind end : ℕ) → header_at b at ≡ Chunk kind end → subs_at b (suc n) at ≡ record { kind = kind; size = end - at } ∷ subs_at b n end
+subs_more : (b : List ℕ) (n at kind end : ℕ) → header_at b at ≡ Chunk kind end → subs_at b (suc n) at ≡ record {
+  kind = kind;
+  size = end - at;
+} ∷ subs_at b n end
 unfolding subs_at
 subs_more b n at kind end q =
     let k : suc n - 1 ≡ n = omega arith in
@@ -99,7 +102,10 @@ module _ (z : Size) (b : List ℕ) where
       → Single z (sub_chunks z b n at) kind size
   unfolding sub_chunks subs_at
   chunks_single n at kind size =
-      subs_by b (λ (m k : ℕ) (s : Spans). (acted z b s.met s.answer).answer ≡ Done → sized s.met ≡ record { kind = kind; size = size } ∷ [] → Single z (acted z b s.met s.answer) kind size)
+      subs_by b (λ (m k : ℕ) (s : Spans). (acted z b s.met s.answer).answer ≡ Done → sized s.met ≡ record {
+        kind = kind;
+        size = size;
+      } ∷ [] → Single z (acted z b s.met s.answer) kind size)
       (λ k a e. never e) (λ m k r q a e. never e) (λ m k kind' end i rest a e. one m k kind' end i a e) n at
     where
       one : (m k kind' end : ℕ) → header_at b k ≡ Chunk kind' end

@@ -23,7 +23,8 @@ apart_drop n s a i h e =
 -- a repeat has one pixel
 repeat_one : (n : ℕ) (s : List ℕ) → Apart s → Repeats n s → n ≡ 1
 repeat_one n s a r =
-    ⊎_elim {C = n ≡ 1} (λ (h : 2 ≤ n). absurd (a 0 (omega (arith, r.fits)) (at 0 (omega arith) ∙ sym (at 1 (omega arith))))) (λ (h : n < 2). omega (arith, r.low))
+    ⊎_elim {C = n ≡ 1} (λ (h : 2 ≤ n). absurd (a 0 (omega (arith, r.fits)) (at 0 (omega arith) ∙ sym (at 1 (omega arith)))))
+    (λ (h : n < 2). omega (arith, r.low))
     (le_or_lt 2 n)
   where
     at : (i : ℕ) → i < n → get_or s i 0 ≡ get_or s 0 0
@@ -52,7 +53,8 @@ two_through : (s : List ℕ) → length s ≡ 129 → Through s two
 two_through [] l = absurd (omega arith)
 two_through (v ∷ s) l =
     go (repeat_mem 1 v s (omega arith) (omega arith))
-    (go (copy_mem s 128 (omega arith) (omega arith) (omega arith)) (subst (λ (x : List ℕ). Through x []) (sym (drop_of_length-le s {i = 128} (omega arith))) stop))
+    (go (copy_mem s 128 (omega arith) (omega arith) (omega arith))
+    (subst (λ (x : List ℕ). Through x []) (sym (drop_of_length-le s {i = 128} (omega arith))) stop))
 
 two_least : (s : List ℕ) → length s ≡ 129 → Apart s → Least span size allowed s two
 two_least s l a =

@@ -65,7 +65,8 @@ noted_as s note e f = record { size = note.size ∙ e; first = note.first ∙ f 
 -- the last pixel of a row
 module _ (row : List ℕ) (i : ℕ) (last : i + 1 ≡ length row) where
   drop_last : drop i row ≡ get_or row i 0 ∷ []
-  drop_last = drop-cons row i 0 (omega arith) ∙ ap {B = List ℕ} (λ r. get_or row i 0 ∷ r) (ap (λ (n : ℕ). drop n row) (the (suc i ≡ length row) (omega arith)) ∙ drop-length row)
+  drop_last = drop-cons row i 0 (omega arith)
+      ∙ ap {B = List ℕ} (λ r. get_or row i 0 ∷ r) (ap (λ (n : ℕ). drop n row) (the (suc i ≡ length row) (omega arith)) ∙ drop-length row)
 
   run_last : run (drop i row) ≡ 1
   run_last = rw drop_last (run_one (get_or row i 0))
@@ -91,10 +92,12 @@ module _ (row : List ℕ) (i : ℕ) (inside : i + 1 < length row) where
   drop_two : drop i row ≡ get_or row i 0 ∷ (get_or row (i + 1) 0 ∷ drop (suc (suc i)) row)
   drop_two =
       drop-cons row i 0 (omega arith)
-      ∙ ap {B = List ℕ} (λ r. get_or row i 0 ∷ r) (drop-cons row (suc i) 0 (omega arith) ∙ ap {B = List ℕ} (λ (n : ℕ). get_or row n 0 ∷ drop (suc (suc i)) row) (the (suc i ≡ i + 1) (omega arith)))
+      ∙ ap {B = List ℕ} (λ r. get_or row i 0 ∷ r)
+      (drop-cons row (suc i) 0 (omega arith) ∙ ap {B = List ℕ} (λ (n : ℕ). get_or row n 0 ∷ drop (suc (suc i)) row) (the (suc i ≡ i + 1) (omega arith)))
 
   drop_one : drop (i + 1) row ≡ get_or row (i + 1) 0 ∷ drop (suc (suc i)) row
-  drop_one = drop-cons row (i + 1) 0 (omega arith) ∙ ap {B = List ℕ} (λ (n : ℕ). get_or row (i + 1) 0 ∷ drop n row) (the (suc (i + 1) ≡ suc (suc i)) (omega arith))
+  drop_one = drop-cons row (i + 1) 0 (omega arith)
+      ∙ ap {B = List ℕ} (λ (n : ℕ). get_or row (i + 1) 0 ∷ drop n row) (the (suc (i + 1) ≡ suc (suc i)) (omega arith))
 
   -- the longest repeat, from that at the next pixel
   run_equal : get_or row i 0 ≡ get_or row (i + 1) 0 → run (drop i row) ≡ min 127 (run (drop (i + 1) row) + 1)
@@ -138,14 +141,18 @@ searching_last row sums first far w i whole high last long long_first long_far =
       (record {
         reached = λ j l h.
             let e : j ≡ w = omega arith in
-            ap (λ (n : ℕ). get_or (set sums w w) n 0) e ∙ get_or-set_same sums w w 0 (omega arith) ∙ sym (ap (reach row) (e ∙ whole) ∙ reach_end row ∙ sym whole);
+            ap (λ (n : ℕ). get_or (set sums w w) n 0) e ∙ get_or-set_same sums w w 0 (omega arith)
+            ∙ sym (ap (reach row) (e ∙ whole) ∙ reach_end row ∙ sym whole);
         firsts = λ j l h. absurd (omega arith);
       })
       sum_is (sym note.first);
   here_is = sum_is;
   longest = record { run_is = sym (run_last row i (last ∙ whole)); sum_is = sym (reach_last row i (last ∙ whole) ∙ last) };
   window = record {
-    close = subst (λ (a : ℕ). LowestEnd (reach row) a w (record { place = w; sum = w })) (sym last) (record { lowest = one (reach row) w; sum_is = sym (ap (reach row) whole ∙ reach_end row ∙ sym whole) });
+    close = subst (λ (a : ℕ). LowestEnd (reach row) a w (record {
+      place = w;
+      sum = w;
+    })) (sym last) (record { lowest = one (reach row) w; sum_is = sym (ap (reach row) whole ∙ reach_end row ∙ sym whole) });
     narrow = omega arith;
     inside = omega arith;
     whole = λ h. absurd (omega arith);
@@ -293,10 +300,12 @@ module _ {row sums first far : List ℕ} {w t : ℕ} {repeat : Repeat} {split : 
           long = simp length-set s.long;
           long_first = simp length-set s.long_first;
           long_far = long_far;
-          known = known_more row sums first i p.sum p.code (omega (arith, s.inside, s.high, s.long)) (omega (arith, s.inside, s.long_first)) known_next sum_is (sym note.first);
+          known = known_more row sums first i p.sum p.code (omega (arith, s.inside, s.high, s.long)) (omega (arith, s.inside, s.long_first))
+              known_next sum_is (sym note.first);
           here_is = sum_is;
           longest = longest;
-          window = subst (λ (a : ℕ). Window (reach row) w a split' near' far') (sym next) (window_agreed (sum_at sums) (reach row) w t split' near' far' sums_next window);
+          window = subst (λ (a : ℕ). Window (reach row) w a split' near' far') (sym next)
+              (window_agreed (sum_at sums) (reach row) w t split' near' far' sums_next window);
           counted = omega (arith, s.counted);
           aligned = omega (arith, s.aligned);
         }

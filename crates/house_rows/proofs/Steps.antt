@@ -106,7 +106,8 @@ size_up [] = unfold least_size best table in omega arith
 size_up (v ∷ s) = omega (arith, size_up s, one_more)
   where
     one_more : least_size (v ∷ s) ≤ 2 + least_size s
-    one_more = unfold least_size in (laws.triangle span size allowed fits some_packet (v ∷ s) (copy 1) (copy_mem (v ∷ s) 1 (omega arith) (omega arith) (omega arith)))
+    one_more = unfold least_size in
+        (laws.triangle span size allowed fits some_packet (v ∷ s) (copy 1) (copy_mem (v ∷ s) 1 (omega arith) (omega arith) (omega arith)))
 
 -- the first packet
 

@@ -33,7 +33,8 @@ module _ (d : ℕ → ℕ) where
   abbrev pub Swept : ℕ → ℕ → List ℕ → Type 0
   Swept t j far = (k : ℕ) → t < k → k ≤ j → LowestEnd d (t + 1) k (end_of (get_or far k 0))
 
-  pub swept_more : (t j v : ℕ) (far : List ℕ) → j + 1 < length far → Swept t j far → LowestEnd d (t + 1) (j + 1) (end_of v) → Swept t (j + 1) (set far (j + 1) v)
+  pub swept_more : (t j v : ℕ) (far : List ℕ) → j + 1 < length far → Swept t j far → LowestEnd d (t + 1) (j + 1) (end_of v)
+      → Swept t (j + 1) (set far (j + 1) v)
   swept_more t j v far fit swept low k l h =
       ⊎_elim {C = LowestEnd d (t + 1) k (end_of (get_or (set far (j + 1) v) k 0))}
       (λ (e : k ≤ j). rw (get_or-set_other far (j + 1) k v 0 (omega arith)) (swept k l e))
@@ -59,7 +60,8 @@ module _ (d : ℕ → ℕ) where
       (le_or_lt n.sum m.sum)
 
   -- the first place, or one more on the right
-  pub lower_next : (t j : ℕ) (m e r : End) → t ≤ j → e.place ≡ j + 1 → e.sum ≡ d (j + 1) → (j ≡ t → m.sum ≡ e.sum) → (t < j → LowestEnd d (t + 1) j m) → Lower e m r
+  pub lower_next : (t j : ℕ) (m e r : End) → t ≤ j → e.place ≡ j + 1 → e.sum ≡ d (j + 1) → (j ≡ t → m.sum ≡ e.sum)
+      → (t < j → LowestEnd d (t + 1) j m) → Lower e m r
       → LowestEnd d (t + 1) (j + 1) r
   lower_next t j m e r h p s start more w =
       let right : LowestEnd d (j + 1) (j + 1) e = subst (λ (k : ℕ). LowestEnd d k k e) p (one_end e (s ∙ ap d (sym p))) in
@@ -78,7 +80,8 @@ module _ (d : ℕ → ℕ) where
   -- the window one place to the left
 
   pub window_turn : (w e : ℕ) (at near : End) (far far' : List ℕ)
-      → at.sum ≡ d at.place → Window d w (at.place + 1) e near far → at.place + 128 ≡ e → Swept at.place (at.place + 128) far' → Window d w at.place at.place at far'
+      → at.sum ≡ d at.place → Window d w (at.place + 1) e near far → at.place + 128 ≡ e → Swept at.place (at.place + 128) far'
+      → Window d w at.place at.place at far'
   window_turn w e at near far far' s v h swept = record {
     close = one_end at s;
     narrow = omega arith;
@@ -124,11 +127,13 @@ end_agreed d e a b m same l = record {
   sum_is = l.sum_is ∙ same m.place l.lowest.low l.lowest.high;
 }
 
-pub window_agreed : (d e : ℕ → ℕ) (w t split : ℕ) (near : End) (far : List ℕ) → ((j : ℕ) → t ≤ j → j ≤ w → d j ≡ e j) → Window d w t split near far → Window e w t split near far
+pub window_agreed : (d e : ℕ → ℕ) (w t split : ℕ) (near : End) (far : List ℕ) → ((j : ℕ) → t ≤ j → j ≤ w → d j ≡ e j) → Window d w t split near far
+    → Window e w t split near far
 window_agreed d e w t split near far same v = record {
   close = end_agreed d e t split near (λ j l h. same j l (omega (arith, v.inside))) v.close;
   narrow = v.narrow;
   inside = v.inside;
   whole = v.whole;
-  away = λ h j l k. end_agreed d e (split + 1) j (end_of (get_or far j 0)) (λ n a b. same n (omega (arith, v.close.lowest.low, v.close.lowest.high)) (omega (arith, v.whole h))) (v.away h j l k);
+  away = λ h j l k. end_agreed d e (split + 1) j (end_of (get_or far j 0))
+      (λ n a b. same n (omega (arith, v.close.lowest.low, v.close.lowest.high)) (omega (arith, v.whole h))) (v.away h j l k);
 }

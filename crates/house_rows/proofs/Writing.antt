@@ -65,7 +65,8 @@ split_at s (repeat k) i e t q =
       inside = omega (arith, r.fits);
       within = omega (arith, r.low, r.fits);
       packets = omega (arith, ap length e, ap (λ (n : ℕ). length (house (drop n s))) m);
-      bytes = b ∙ ap₂ (λ (l : List ℕ) (n : ℕ). k ∷ (l ++ house_bytes (drop n s))) (sym (take_one s (omega (arith, r.low, r.fits))) ∙ ap (λ (n : ℕ). take n s) (sym c)) (sym m);
+      bytes = b ∙ ap₂ (λ (l : List ℕ) (n : ℕ). k ∷ (l ++ house_bytes (drop n s)))
+          (sym (take_one s (omega (arith, r.low, r.fits))) ∙ ap (λ (n : ℕ). take n s) (sym c)) (sym m);
     })
 split_at s (copy k) i e t q =
     let r = copy_of k s i in
@@ -111,7 +112,12 @@ module _ {row out₀ out : List ℕ} {at here x n : ℕ} (w : Writing row out₀
     size_first : length (house_bytes (drop x row)) ≡ 1 + carried t + length (house_bytes (drop (magnitude t) (drop x row)))
     size_first =
         let f = first in
-        omega (arith, ap length f.bytes, length-append (take (carried t) (drop x row)) (house_bytes (drop (magnitude t) (drop x row))), length-take-le (carried t) (drop x row) f.within)
+        omega (
+          arith,
+          ap length f.bytes,
+          length-append (take (carried t) (drop x row)) (house_bytes (drop (magnitude t) (drop x row))),
+          length-take-le (carried t) (drop x row) f.within,
+        )
 
     -- the packet of type t lies in the row, and there is room for it
     pub packet_fits : (x + carried t ≤ length row) × (here + 1 + carried t ≤ length out) × (1 ≤ magnitude t) × (x + magnitude t ≤ length row)
@@ -149,6 +155,7 @@ module _ {row out₀ out : List ℕ} {at here x n : ℕ} (w : Writing row out₀
         sym (put_nil out here) ∙ ap (λ (l : List ℕ). put out here l) (sym (ap house_bytes d ∙ house_nil.0)) ∙ w.stored,
       )
 
-pub writing_as : {row out₀ out : List ℕ} {at here here' x x' n : ℕ} → Writing row out₀ at out here x n → here' ≡ here → x' ≡ x → Writing row out₀ at out here' x' n
+pub writing_as : {row out₀ out : List ℕ} {at here here' x x' n : ℕ} → Writing row out₀ at out here x n → here' ≡ here → x' ≡ x
+    → Writing row out₀ at out here' x' n
 writing_as {row} {out₀} {out} {at} {here} {here'} {x} {x'} {n} w e f =
     subst (λ (k : ℕ). Writing row out₀ at out k x' n) (sym e) (subst (λ (k : ℕ). Writing row out₀ at out here k n) (sym f) w)

@@ -53,17 +53,20 @@ module _ (w h : ℕ) (b : List ℕ) where
   -- a packet count
   line_kept : (at row n : ℕ) (more : List ℕ) → drop at b ≡ le16 n more → n < 16384 → row < h → line_at h b at row ≡ Row Kept n (at + 2)
   line_kept at row n more e few r =
-      line_there h b at row (Count n) (there_long b (le16 n more) at 2 e (omega arith) (omega arith)) (word_count n few ∙ ap word_of (sym (there_le16 b more at n e)))
+      line_there h b at row (Count n) (there_long b (le16 n more) at 2 e (omega arith) (omega arith))
+      (word_count n few ∙ ap word_of (sym (there_le16 b more at n e)))
       ∙ simp (lt-ltb row h r)
 
   -- a last-pixel word and a packet count
-  line_set : (at row v n : ℕ) (more : List ℕ) → drop at b ≡ v ∷ 128 ∷ le16 n more → v < 256 → n < 16384 → row < h → line_at h b at row ≡ Row (Set v) n (at + 2 + 2)
+  line_set : (at row v n : ℕ) (more : List ℕ) → drop at b ≡ v ∷ 128 ∷ le16 n more → v < 256 → n < 16384 → row < h → line_at h b at row
+      ≡ Row (Set v) n (at + 2 + 2)
   line_set at row v n more e small few r =
       let e' : drop (at + 2) b ≡ le16 n more = there_drop b (v ∷ 128 ∷ []) (le16 n more) at 2 e refl in
       line_there h b at row (Last v) (there_long b (v ∷ 128 ∷ le16 n more) at 2 e (omega arith) (omega arith))
       (word_last v small ∙ ap word_of (sym (there_word b (le16 n more) at v 128 (v + 256 * 128) e refl)))
       ∙ simp (lt-ltb row h r)
-      (last_there b (at + 2) v (Count n) (there_long b (le16 n more) (at + 2) 2 e' (omega arith) (omega arith)) (word_count n few ∙ ap word_of (sym (there_le16 b more (at + 2) n e'))))
+      (last_there b (at + 2) v (Count n) (there_long b (le16 n more) (at + 2) 2 e' (omega arith) (omega arith))
+      (word_count n few ∙ ap word_of (sym (there_le16 b more (at + 2) n e'))))
 
   -- a line, and then the lines after it
   row_gives : (last : LastPixel) (row at c from m n end : ℕ) (d d' e : List ℕ) → line_at h b at row ≡ Row last c from → row < h
@@ -107,11 +110,13 @@ module _ (w : ℕ) (r : Cell) (lo : length r.old ≡ w) (ln : length r.new ≡ w
   tail_kept : last_changes w r ≡ false → drop (w / 2 * 2) r.old ≡ drop (w / 2 * 2) r.new
   unfolding last_changes
   tail_kept e =
-      by_test (λ t. cond t false (not (eqb (get_or r.old (w - 1) 0) (get_or r.new (w - 1) 0))) ≡ false → drop (w / 2 * 2) r.old ≡ drop (w / 2 * 2) r.new) (eqb (w % 2) 0)
+      by_test (λ t. cond t false (not (eqb (get_or r.old (w - 1) 0) (get_or r.new (w - 1) 0))) ≡ false → drop (w / 2 * 2) r.old
+      ≡ drop (w / 2 * 2) r.new) (eqb (w % 2) 0)
       (λ f e. none r.old lo (eqb-true (w % 2) 0 f) ∙ sym (none r.new ln (eqb-true (w % 2) 0 f)))
       (λ f e.
       tail_odd w r.old lo (eqb-false (w % 2) 0 f)
-      ∙ ap (λ (x : ℕ). x ∷ []) (eqb-true (get_or r.old (w - 1) 0) (get_or r.new (w - 1) 0) (not-false (eqb (get_or r.old (w - 1) 0) (get_or r.new (w - 1) 0)) e))
+      ∙ ap (λ (x : ℕ). x ∷ [])
+      (eqb-true (get_or r.old (w - 1) 0) (get_or r.new (w - 1) 0) (not-false (eqb (get_or r.old (w - 1) 0) (get_or r.new (w - 1) 0)) e))
       ∙ sym (tail_odd w r.new ln (eqb-false (w % 2) 0 f))) e
     where
       none : (l : List ℕ) → length l ≡ w → w % 2 ≡ 0 → drop (w / 2 * 2) l ≡ []
@@ -120,10 +125,12 @@ module _ (w : ℕ) (r : Cell) (lo : length r.old ≡ w) (ln : length r.new ≡ w
 -- the line of a row
 
 line_is : (w : ℕ) (r : Cell) (t : Bool) → last_changes w r ≡ t
-    → line w r ≡ cond t (get_or r.new (w - 1) 0 ∷ 128 ∷ le16 (length (line_packets w r)) (bytes (line_packets w r))) (le16 (length (line_packets w r)) (bytes (line_packets w r)))
+    → line w r ≡ cond t (get_or r.new (w - 1) 0 ∷ 128 ∷ le16 (length (line_packets w r)) (bytes (line_packets w r)))
+    (le16 (length (line_packets w r)) (bytes (line_packets w r)))
 unfolding line counted
 line_is w r t e =
-    ap (λ (b : Bool). cond b (get_or r.new (w - 1) 0 ∷ 128 ∷ le16 (length (line_packets w r)) (bytes (line_packets w r))) (le16 (length (line_packets w r)) (bytes (line_packets w r)))) e
+    ap (λ (b : Bool). cond b (get_or r.new (w - 1) 0 ∷ 128 ∷ le16 (length (line_packets w r)) (bytes (line_packets w r)))
+    (le16 (length (line_packets w r)) (bytes (line_packets w r)))) e
 
 pub line_gives : (w h : ℕ) (b : List ℕ) (r : Cell) → 1 ≤ w → Wide w → length r.old ≡ w → length r.new ≡ w → Bytes r.new
     → (row at n : ℕ) (pre post more : List ℕ) (end : ℕ) (e : List ℕ) → row < h → drop at b ≡ line w r ++ more → length pre ≡ row * w
@@ -168,7 +175,8 @@ line_gives w h b r some wide lo ln small row at n pre post more end e rh there l
         (row_gives w h b Kept row at (length ps) (at + 2) m n end (pre ++ (s ++ tail)) (pre ++ (t ++ tail)) e
         (line_kept w h b at row (length ps) (bytes ps ++ more) there' few rh) rh
         (gives_as (walk_kept w h b row (length ps) (at + 2))
-        (packets_give 2 w b turns row (at + 2) 0 more pre tail m (there_drop b (le16 (length ps) []) (bytes ps ++ more) at 2 there' refl) refl (omega (arith, ls)) (omega arith)))
+        (packets_give 2 w b turns row (at + 2) 0 more pre tail m (there_drop b (le16 (length ps) []) (bytes ps ++ more) at 2 there' refl) refl
+        (omega (arith, ls)) (omega arith)))
         (gives_as (ap (λ (j : ℕ). lines_from w h b n (row + 1) j) (sym to))
         (gives_to refl (ap (λ (l : List ℕ). pre ++ l) (parts r.new ∙ ap (λ (x : List ℕ). t ++ (x ++ post)) (sym (tail_kept w r lo ln f)))) refl below)))
 
@@ -187,6 +195,7 @@ line_gives w h b r some wide lo ln small row at n pre post more end e rh there l
         (line_set w h b at row v (length ps) (bytes ps ++ more) there' (bytes_get_d r.new (w - 1) small) few rh) rh
         (set_gives w h b row v o (length ps) (at + 2 + 2) m pre s post (pre ++ (t ++ (v ∷ post))) lp (omega (arith, odd, ls))
         (packets_give 2 w b turns row (at + 2 + 2) 0 more pre (v ∷ post) m
-        (ap (λ (j : ℕ). drop j b) (sym four) ∙ there_drop b (v ∷ 128 ∷ le16 (length ps) []) (bytes ps ++ more) at 4 there' refl) refl (omega (arith, ls)) (omega arith)))
+        (ap (λ (j : ℕ). drop j b) (sym four) ∙ there_drop b (v ∷ 128 ∷ le16 (length ps) []) (bytes ps ++ more) at 4 there' refl) refl
+        (omega (arith, ls)) (omega arith)))
         (gives_as (ap (λ (j : ℕ). lines_from w h b n (row + 1) j) (sym to))
         (gives_to refl (ap (λ (l : List ℕ). pre ++ l) (parts r.new ∙ ap (λ (x : List ℕ). t ++ (x ++ post)) (tail_odd w r.new ln odd))) refl below)))

@@ -17,7 +17,14 @@ use Rattle.house_ss2.specs.Line.{line_packets, counted, last_changes, line}
 
 -- kind 7's numbers
 pub pairs_form : Form 2 2 254
-pairs_form = record { some_unit = omega arith; small_unit = omega arith; some_least = omega arith; small_least = omega arith; some_longest = omega arith; small_longest = omega arith }
+pairs_form = record {
+  some_unit = omega arith;
+  small_unit = omega arith;
+  some_least = omega arith;
+  small_least = omega arith;
+  some_longest = omega arith;
+  small_longest = omega arith;
+}
 
 -- the packet count, and the packets
 

@@ -46,7 +46,8 @@ module _ (w h : ℕ) (b : List ℕ) where
       (gives_to refl (append_assoc pre r.new (olds rs ++ post)) refl
       (lines_give rs some wide z.2 sm.1 (row + 1) (at + length (line w r)) n (length rs + n) (pre ++ r.new) post more end e refl (omega arith)
       (there_drop b (line w r) (lines w rs ++ more) at (length (line w r)) (there ∙ l) refl) (omega (arith, z.1))
-      (gives_as (lines_at n n (row + 1 + length rs) (row + suc (length rs)) (at + length (line w r) + length (lines w rs)) (at + length (line w r ++ lines w rs)) refl (omega arith) (omega arith))
+      (gives_as (lines_at n n (row + 1 + length rs) (row + suc (length rs)) (at + length (line w r) + length (lines w rs))
+      (at + length (line w r ++ lines w rs)) refl (omega arith) (omega arith))
       (gives_to refl (simp append_assoc) refl below))))))
 
   -- the skip word of a gap of g rows, if there is one
@@ -94,10 +95,13 @@ module _ (w h : ℕ) (b : List ℕ) where
       let la = length-append (skip_word g ++ lines w rs) after in
       let lb = length-append (skip_word g) (lines w rs) in
       gives_to refl
-      (sym (ap (λ (l : List ℕ). pre ++ l) (olds_append still (rs ++ more) ∙ ap (λ (l : List ℕ). olds still ++ l) (olds_append rs more)) ∙ sym (append_assoc pre (olds still) (olds rs ++ olds more))))
-      (sym (ap (λ (l : List ℕ). pre ++ l) (news_append still (rs ++ more) ∙ ap₂ (λ (x y : List ℕ). x ++ y) (sym q) (news_append rs more)) ∙ sym (append_assoc pre (olds still) (news rs ++ news more))))
+      (sym (ap (λ (l : List ℕ). pre ++ l) (olds_append still (rs ++ more) ∙ ap (λ (l : List ℕ). olds still ++ l) (olds_append rs more))
+      ∙ sym (append_assoc pre (olds still) (olds rs ++ olds more))))
+      (sym (ap (λ (l : List ℕ). pre ++ l) (news_append still (rs ++ more) ∙ ap₂ (λ (x y : List ℕ). x ++ y) (sym q) (news_append rs more))
+      ∙ sym (append_assoc pre (olds still) (news rs ++ news more))))
       (skip_gives g (length (cs ++ left)) row at bs (front ++ (olds rs ++ olds more)) end (front ++ (news rs ++ news more)) (omega arith) (omega arith) there'
-      (lines_give rs some wide zc.0 sc.0 (row + g) at' (length left) (suc (length (cs ++ left))) front (olds more) after end (front ++ (news rs ++ news more)) (omega arith) (omega arith) here (omega arith)
+      (lines_give rs some wide zc.0 sc.0 (row + g) at' (length left) (suc (length (cs ++ left))) front (olds more) after end
+      (front ++ (news rs ++ news more)) (omega arith) (omega arith) here (omega arith)
       (gives_to refl (append_assoc front (news rs) (olds more)) (append_assoc front (news rs) (news more))
       (rows_give m some wide high zc.1 sc.1 (row + g + length rs) (at' + length (lines w rs)) (front ++ news rs) end (omega arith)
       (there_drop b (lines w rs) after at' (length (lines w rs)) here refl) (omega arith) (omega arith)))))

@@ -59,4 +59,5 @@ module _ (w h : ℕ) (p q : List ℕ) where
   unfolding delta_body
   body_stored d e f at c k l x y =
       let z = flat_map (stretch_lines w) (changed_rows w h p q) in
-      y ∙ ap (λ (o : List ℕ). put o at (le16 c [])) x ∙ put_before d (le16 c []) z at 2 refl (omega (arith, body_length)) ∙ ap (λ (n : ℕ). put d at (le16 n z)) k
+      y ∙ ap (λ (o : List ℕ). put o at (le16 c [])) x ∙ put_before d (le16 c []) z at 2 refl (omega (arith, body_length))
+      ∙ ap (λ (n : ℕ). put d at (le16 n z)) k

@@ -89,7 +89,8 @@ module _ (b : List ℕ) where
   module _ (few : length b ≤ LIST_INPUT) where
     pub listing_head : (x : Head) → head_of FlcOnly b ≡ x → listing b ≡ head_lines b x
     unfolding listing
-    listing_head x e = ap (λ (y : Head). cond (leb (length b) LIST_INPUT) (head_lines b y) (refused_line (number NoRoom) 0)) e ∙ simp (le-leb (length b) LIST_INPUT few)
+    listing_head x e = ap (λ (y : Head). cond (leb (length b) LIST_INPUT) (head_lines b y) (refused_line (number NoRoom) 0)) e
+        ∙ simp (le-leb (length b) LIST_INPUT few)
 
     -- m: the length of the part that was walked
     pub listing_walk : (z : Size) (frames size : ℕ) (speed : Milliseconds) → head_of FlcOnly b ≡ head.Reel z frames size speed → (m : ℕ) → m ≡ size

@@ -94,14 +94,16 @@ module _ (b : List ℕ) (bytes : (i : ℕ) → get_or b i 0 < 256) (few : length
       by_test (λ t. 6 * length (cond t children []) ≤ line_most * (end - at - 6)) (leb (head_bytes kind) (end - at))
       (λ e. let l = leb-true (head_bytes kind) (end - at) e in
       let k = head_bytes_in kind in
-      let c = children_by_lem inner (inside_by levels (depth + 1) (omega arith)) (depth + 1) kind end (count_at b at kind) (at + head_bytes kind) (omega arith) (omega arith) w in
+      let c = children_by_lem inner (inside_by levels (depth + 1) (omega arith)) (depth + 1) kind end (count_at b at kind) (at + head_bytes kind)
+      (omega arith) (omega arith) w in
       omega arith)
       (λ e. omega arith)
 
   module _ (depth : ℕ) (shallow : depth ≤ LIST_DEPTH) where
     pub opened_short : (t : Bool) (to at kind end : ℕ) → to ≤ length b → Child depth to at kind end
         → 6 * length (cond t (container_of b depth at end kind) []) ≤ line_most * (end - at - 6)
-    opened_short t to at kind end w i = opened_by (inside (LIST_DEPTH - depth) b depth) (inside_by (LIST_DEPTH - depth) depth (omega arith)) t depth to at kind end w i
+    opened_short t to at kind end w i = opened_by (inside (LIST_DEPTH - depth) b depth) (inside_by (LIST_DEPTH - depth) depth (omega arith)) t depth
+        to at kind end w i
 
     pub children_short : (parent to count at : ℕ) → at ≤ to → to ≤ length b → 6 * length (children_of b depth parent to count at) ≤ line_most * (to - at)
     children_short parent to count at h w =
@@ -110,7 +112,8 @@ module _ (b : List ℕ) (bytes : (i : ℕ) → get_or b i 0 < 256) (few : length
 -- a whole reel
 
 -- m: the length of the part that is the reel
-pub listed_in : (b : List ℕ) (z : Size) (frames size m : ℕ) → length b ≤ LIST_INPUT → ReelIn b z frames size → m ≡ size → Listed (take m b) z.width z.height frames
+pub listed_in : (b : List ℕ) (z : Size) (frames size m : ℕ) → length b ≤ LIST_INPUT → ReelIn b z frames size → m ≡ size
+    → Listed (take m b) z.width z.height frames
 listed_in b z frames size m few i k =
     let n = length-take-le m b (omega (arith, i.most)) in
     record { long = omega (arith, i.least); short = omega (arith, i.most); sized = size_in_lem z i.sized; few = i.few_frames }

@@ -102,7 +102,12 @@ module _ (depth at kind size : ℕ) where
   unfolding chunk_line
   chunk_length =
       let x = numeral kind SPACE ++ numeral size NEWLINE in
-      omega (arith, length-append (numeral depth SPACE) (numeral at SPACE ++ x), length-append (numeral at SPACE) x, length-append (numeral kind SPACE) (numeral size NEWLINE))
+      omega (
+        arith,
+        length-append (numeral depth SPACE) (numeral at SPACE ++ x),
+        length-append (numeral at SPACE) x,
+        length-append (numeral kind SPACE) (numeral size NEWLINE),
+      )
 
   pub chunk_short : depth < 10 → at < 100000 → kind < 100000 → size < 100000 → length (chunk_line depth at kind size) ≤ line_most
   chunk_short d a k s =
@@ -156,18 +161,21 @@ module _ (n place : ℕ) where
 -- stored piece by piece
 
 -- one byte behind what was stored
-pub stored_byte : {d e : List ℕ} {at r : ℕ} {t : List ℕ} (x : ℕ) → at + length (t ++ (x ∷ [])) ≤ length d → Stored d at t e r → Stored d at (t ++ (x ∷ [])) (set e r x) (r + 1)
+pub stored_byte : {d e : List ℕ} {at r : ℕ} {t : List ℕ} (x : ℕ) → at + length (t ++ (x ∷ [])) ≤ length d → Stored d at t e r
+    → Stored d at (t ++ (x ∷ [])) (set e r x) (r + 1)
 stored_byte {d} {e} {at} {r} {t} x room s =
     let n = length-append t (x ∷ []) in
     let l = length_put d at t (omega arith) in
     let k : length e ≡ length d = ap length s.bytes ∙ l in
     record {
-      bytes = put_then d e (set e r x) t (x ∷ []) at (length t) refl (omega arith) s.bytes (put_one e r x (omega (arith, s.end)) ∙ ap (λ (i : ℕ). put e i (x ∷ [])) s.end);
+      bytes = put_then d e (set e r x) t (x ∷ []) at (length t) refl (omega arith) s.bytes
+          (put_one e r x (omega (arith, s.end)) ∙ ap (λ (i : ℕ). put e i (x ∷ [])) s.end);
       end = omega (arith, s.end);
     }
 
 -- text behind what was stored
-pub stored_then : {d e f : List ℕ} {at m r : ℕ} {t u : List ℕ} → at + length (t ++ u) ≤ length d → Stored d at t e m → Stored e m u f r → Stored d at (t ++ u) f r
+pub stored_then : {d e f : List ℕ} {at m r : ℕ} {t u : List ℕ} → at + length (t ++ u) ≤ length d → Stored d at t e m → Stored e m u f r
+    → Stored d at (t ++ u) f r
 stored_then {d} {e} {f} {at} {m} {r} {t} {u} room s q =
     let n = length-append t u in
     record {
@@ -199,7 +207,8 @@ stored_large d e at r x h room s =
 
 module _ {d : List ℕ} {at : ℕ} where
   pub stored_chunk : {e f g k : List ℕ} {m n o r : ℕ} (depth offset kind size : ℕ) → at + length (chunk_line depth offset kind size) ≤ length d
-      → Stored d at (numeral depth SPACE) e m → Stored e m (numeral offset SPACE) f n → Stored f n (numeral kind SPACE) g o → Stored g o (numeral size NEWLINE) k r
+      → Stored d at (numeral depth SPACE) e m → Stored e m (numeral offset SPACE) f n → Stored f n (numeral kind SPACE) g o
+      → Stored g o (numeral size NEWLINE) k r
       → Stored d at (chunk_line depth offset kind size) k r
   unfolding chunk_line
   stored_chunk {e} {f} {g} {k} {m} {n} {o} {r} depth offset kind size room s t u v =

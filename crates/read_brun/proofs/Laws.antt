@@ -76,16 +76,27 @@ module _ (b : List ℕ) (at left : ℕ) where
       → packet_at b at left ≡ Fault BodyEnds
   unfolding packet_at packet_of
   packet_short h z k l =
-      simp (le-leb (at + 1) (length b) h, le-leb 1 (magnitude (get_or b at 0)) z, le-leb (magnitude (get_or b at 0)) left k, lt-leb (at + 1 + data_bytes (get_or b at 0)) (length b) l)
+      simp (
+        le-leb (at + 1) (length b) h,
+        le-leb 1 (magnitude (get_or b at 0)) z,
+        le-leb (magnitude (get_or b at 0)) left k,
+        lt-leb (at + 1 + data_bytes (get_or b at 0)) (length b) l,
+      )
 
   pub packet_whole : at + 1 ≤ length b → 1 ≤ magnitude (get_or b at 0) → magnitude (get_or b at 0) ≤ left → at + 1 + data_bytes (get_or b at 0) ≤ length b
       → packet_at b at left ≡ Pixels (get_or b at 0) (magnitude (get_or b at 0)) (at + 1 + data_bytes (get_or b at 0))
   unfolding packet_at packet_of
   packet_whole h z k l =
-      simp (le-leb (at + 1) (length b) h, le-leb 1 (magnitude (get_or b at 0)) z, le-leb (magnitude (get_or b at 0)) left k, le-leb (at + 1 + data_bytes (get_or b at 0)) (length b) l)
+      simp (
+        le-leb (at + 1) (length b) h,
+        le-leb 1 (magnitude (get_or b at 0)) z,
+        le-leb (magnitude (get_or b at 0)) left k,
+        le-leb (at + 1 + data_bytes (get_or b at 0)) (length b) l,
+      )
 
   -- the same where n pixels are given and the data ends at end
-  pub packet_told : (n end : ℕ) → at + 1 ≤ length b → 1 ≤ n → n ≤ left → end ≤ length b → magnitude (get_or b at 0) ≡ n → at + 1 + data_bytes (get_or b at 0) ≡ end
+  pub packet_told : (n end : ℕ) → at + 1 ≤ length b → 1 ≤ n → n ≤ left → end ≤ length b → magnitude (get_or b at 0) ≡ n
+      → at + 1 + data_bytes (get_or b at 0) ≡ end
       → Pixels (get_or b at 0) n end ≡ packet_at b at left
   packet_told n end h z k l m d =
       sym (packet_whole h (omega arith) (omega arith) (omega arith) ∙ ap₂ (λ (x y : ℕ). Pixels (get_or b at 0) x y) m d)
@@ -152,7 +163,8 @@ module _ (w : ℕ) (b : List ℕ) where
       → rows w b h at ≡ record { pixels = (row w b at).pixels; verdict = verdict.Fault e }
   rows_stop h at k e q = rows_as h at k (verdict.Fault e) q
 
-  pub rows_more : (h at : ℕ) → 0 < h → (end : ℕ) → (row w b at).verdict ≡ verdict.Ends end → rows w b h at ≡ run_before (row w b at).pixels (rows w b (h - 1) end)
+  pub rows_more : (h at : ℕ) → 0 < h → (end : ℕ) → (row w b at).verdict ≡ verdict.Ends end → rows w b h at
+      ≡ run_before (row w b at).pixels (rows w b (h - 1) end)
   rows_more h at k end q = rows_as h at k (verdict.Ends end) q
 
 -- the bounds of a packet: its pixels lie in the row, its data in the body
@@ -163,13 +175,16 @@ PacketIn b at left (Pixels t n end) = (1 ≤ n) × (n ≤ left) × (magnitude t 
 
 pub packet_in : (b : List ℕ) (at left : ℕ) (p : BrunStep) → packet_at b at left ≡ p → PacketIn b at left p
 unfolding packet_at packet_of
-packet_in b at left p e = subst (PacketIn b at left) e (go (leb (at + 1) (length b)) (leb 1 (magnitude t)) (leb (magnitude t) left) (leb (at + 1 + data_bytes t) (length b)) refl refl refl)
+packet_in b at left p e = subst (PacketIn b at left) e
+    (go (leb (at + 1) (length b)) (leb 1 (magnitude t)) (leb (magnitude t) left) (leb (at + 1 + data_bytes t) (length b)) refl refl refl)
   where
     t : ℕ
     t = get_or b at 0
 
     go : (a z k l : Bool) → leb 1 (magnitude t) ≡ z → leb (magnitude t) left ≡ k → leb (at + 1 + data_bytes t) (length b) ≡ l
-        → PacketIn b at left (cond a (cond z (cond k (cond l (Pixels t (magnitude t) (at + 1 + data_bytes t)) (Fault BodyEnds)) (Fault PastWidth)) (Fault ZeroCount)) (Fault BodyEnds))
+        → PacketIn b at left
+        (cond a (cond z (cond k (cond l (Pixels t (magnitude t) (at + 1 + data_bytes t)) (Fault BodyEnds)) (Fault PastWidth)) (Fault ZeroCount))
+        (Fault BodyEnds))
     go false z k l p q r = tt
     go true false k l p q r = tt
     go true true false l p q r = tt
@@ -191,14 +206,23 @@ packets_length b (suc left) zero at end h v = go (packet_at b at (suc left)) (pa
         → length (after_packet b at p (λ n j. packets b left (n - 1) j)).pixels + 0 ≡ suc left
     go (Fault e) i ih u = fault_not_end u
     go (Pixels t n j) i ih u =
-        omega (arith, length-append (pixels b (at + 1) t) (packets b left (n - 1) j).pixels, length_pixels b (at + 1) t (omega (arith, i.3, i.4)), i.0, i.1, i.2, ih (n - 1) j end (omega (arith, i.0, i.1)) u)
+        omega (
+          arith,
+          length-append (pixels b (at + 1) t) (packets b left (n - 1) j).pixels,
+          length_pixels b (at + 1) t (omega (arith, i.3, i.4)),
+          i.0,
+          i.1,
+          i.2,
+          ih (n - 1) j end (omega (arith, i.0, i.1)) u,
+        )
 
 -- a row that ends has w pixels
 pub row_length : (w : ℕ) (b : List ℕ) (at end : ℕ) → (row w b at).verdict ≡ verdict.Ends end → length (row w b at).pixels ≡ w
 unfolding row
 row_length w b at end v = go (leb (at + 1) (length b)) v
   where
-    go : (c : Bool) → (cond c (packets b w 0 (at + 1)) (run_fault BodyEnds)).verdict ≡ verdict.Ends end → length (cond c (packets b w 0 (at + 1)) (run_fault BodyEnds)).pixels ≡ w
+    go : (c : Bool) → (cond c (packets b w 0 (at + 1)) (run_fault BodyEnds)).verdict ≡ verdict.Ends end
+        → length (cond c (packets b w 0 (at + 1)) (run_fault BodyEnds)).pixels ≡ w
     go true u = omega (arith, packets_length b w 0 (at + 1) end (omega arith) u)
     go false u = fault_not_end u
 
@@ -230,7 +254,15 @@ packets_sound b (suc left) zero at i h = go (packet_at b at (suc left)) (packet_
         let r = ih (n - 1) j i.4 (omega (arith, i.0, i.1)) in
         record {
           ends_in = r.ends_in;
-          few = omega (arith, length-append (pixels b (at + 1) t) (packets b left (n - 1) j).pixels, length_pixels b (at + 1) t (omega (arith, i.3, i.4)), i.0, i.1, i.2, r.few);
+          few = omega (
+            arith,
+            length-append (pixels b (at + 1) t) (packets b left (n - 1) j).pixels,
+            length_pixels b (at + 1) t (omega (arith, i.3, i.4)),
+            i.0,
+            i.1,
+            i.2,
+            r.few,
+          );
           bytes = λ h. bytes_join (pixels b (at + 1) t) (packets b left (n - 1) j).pixels (pixels_bytes b (at + 1) t h) (r.bytes h);
         }
 
@@ -314,7 +346,8 @@ module _ (p : Pass) (w h : ℕ) (b d e : List ℕ) (k at : ℕ) (fits : k < h) (
       let m : h - k - 1 ≡ h - (k + 1) = omega arith in
       let n : k * w + w ≡ (k + 1) * w = omega arith in
       ap (λ (r : Run). shown p r d (k * w)) (rows_more w b (h - k) at (omega arith) end v)
-      ∙ shown_on p d e (k * w) (row w b at).pixels w (rows w b (h - k - 1) end) (row_length w b at end v) (λ wet. omega (arith, row_in w h k fits, room wet)) left
+      ∙ shown_on p d e (k * w) (row w b at).pixels w (rows w b (h - k - 1) end) (row_length w b at end v)
+      (λ wet. omega (arith, row_in w h k fits, room wet)) left
       ∙ ap₂ (λ (x y : ℕ). shown p (rows w b x end) e y) m n
 
   pub rows_stopped : (f : Refusal) → (row w b at).verdict ≡ verdict.Fault f → shown p (rows w b (h - k) at) d (k * w) ≡ (verdict.Fault f, e)

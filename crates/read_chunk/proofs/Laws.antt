@@ -51,17 +51,39 @@ module _ (z : Size) (kind : ℕ) (b : List ℕ) where
 -- what a pass over a body on the picture, or on the palette, gives; the other stays
 module _ (z : Size) (kind : ℕ) (b : List ℕ) (k : Walk) (p : Pass) (v : Verdict) (out : v ≡ judged (length b) k.verdict) where
   pub on_picture_lem : (d e picture : List ℕ) → by_kind z kind b ≡ on_picture (length b) k → picture ≡ wrote p k.writes d
-      → record { verdict : v ≡ (by_kind z kind b).verdict; pixels : picture ≡ wrote p (by_kind z kind b).pixels d; colours : e ≡ wrote p (by_kind z kind b).colours e }
+      → record {
+        verdict : v ≡ (by_kind z kind b).verdict;
+        pixels : picture ≡ wrote p (by_kind z kind b).pixels d;
+        colours : e
+            ≡ wrote p (by_kind z kind b).colours e;
+      }
   on_picture_lem d e picture is left =
-      record { verdict = out ∙ sym (ap (λ (c : ChunkWalk). c.verdict) is); pixels = left ∙ sym (ap (λ (c : ChunkWalk). wrote p c.pixels d) is); colours = sym (ap (λ (c : ChunkWalk). wrote p c.colours e) is ∙ wrote_none p e) }
+      record {
+        verdict = out ∙ sym (ap (λ (c : ChunkWalk). c.verdict) is);
+        pixels = left ∙ sym (ap (λ (c : ChunkWalk). wrote p c.pixels d) is);
+        colours = sym (ap (λ (c : ChunkWalk). wrote p c.colours e) is ∙ wrote_none p e);
+      }
 
   pub on_palette_lem : (d e palette : List ℕ) → by_kind z kind b ≡ on_palette (length b) k → palette ≡ wrote p k.writes e
-      → record { verdict : v ≡ (by_kind z kind b).verdict; pixels : d ≡ wrote p (by_kind z kind b).pixels d; colours : palette ≡ wrote p (by_kind z kind b).colours e }
+      → record {
+        verdict : v ≡ (by_kind z kind b).verdict;
+        pixels : d ≡ wrote p (by_kind z kind b).pixels d;
+        colours : palette
+            ≡ wrote p (by_kind z kind b).colours e;
+      }
   on_palette_lem d e palette is left =
-      record { verdict = out ∙ sym (ap (λ (c : ChunkWalk). c.verdict) is); pixels = sym (ap (λ (c : ChunkWalk). wrote p c.pixels d) is ∙ wrote_none p d); colours = left ∙ sym (ap (λ (c : ChunkWalk). wrote p c.colours e) is) }
+      record {
+        verdict = out ∙ sym (ap (λ (c : ChunkWalk). c.verdict) is);
+        pixels = sym (ap (λ (c : ChunkWalk). wrote p c.pixels d) is ∙ wrote_none p d);
+        colours = left ∙ sym (ap (λ (c : ChunkWalk). wrote p c.colours e) is);
+      }
 
 -- a sub-chunk without a write
 pub no_write : (c : ChunkWalk) (v : Verdict) (p : Pass) (d e : List ℕ) → c ≡ record { pixels = []; colours = []; verdict = v }
     → record { verdict : v ≡ c.verdict; pixels : d ≡ wrote p c.pixels d; colours : e ≡ wrote p c.colours e }
 no_write c v p d e is =
-    record { verdict = sym (ap (λ (x : ChunkWalk). x.verdict) is); pixels = sym (ap (λ (x : ChunkWalk). wrote p x.pixels d) is ∙ wrote_none p d); colours = sym (ap (λ (x : ChunkWalk). wrote p x.colours e) is ∙ wrote_none p e) }
+    record {
+      verdict = sym (ap (λ (x : ChunkWalk). x.verdict) is);
+      pixels = sym (ap (λ (x : ChunkWalk). wrote p x.pixels d) is ∙ wrote_none p d);
+      colours = sym (ap (λ (x : ChunkWalk). wrote p x.colours e) is ∙ wrote_none p e);
+    }

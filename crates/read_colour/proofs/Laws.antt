@@ -124,7 +124,8 @@ packet_in levels b at i p e =
     m = count_of (get_or b (at + 1) 0)
 
     go : (a k l v : Bool) → leb (j + m) 256 ≡ k → leb (at + 2 + 3 * m) (length b) ≡ l → levels_ok levels (take (3 * m) (drop (at + 2) b)) ≡ v
-        → PacketIn levels b (cond a (cond k (cond l (cond v (Colours (at + 2) (3 * j) (3 * m) (j + m)) (Fault OverLevel)) (Fault BodyEnds)) (Fault PastPalette)) (Fault BodyEnds))
+        → PacketIn levels b (cond a
+        (cond k (cond l (cond v (Colours (at + 2) (3 * j) (3 * m) (j + m)) (Fault OverLevel)) (Fault BodyEnds)) (Fault PastPalette)) (Fault BodyEnds))
     go false k l v p q r = tt
     go true false l v p q r = tt
     go true true false v p q r = tt
@@ -151,7 +152,8 @@ module _ (levels : Levels) (b : List ℕ) where
 
   pub packets_more : (n at i : ℕ) → 0 < n → (from to len next : ℕ) → Colours from to len next ≡ packet_at levels b at i
       → packets levels b n at i ≡ and_then to (map (level levels) (take len (drop from b))) (packets levels b (n - 1) (from + len) next)
-  packets_more n at i h from to len next q = packets_step n at i h ∙ ap (λ (p : ColourStep). after_packet levels b p (λ at' i'. packets levels b (n - 1) at' i')) (sym q)
+  packets_more n at i h from to len next q = packets_step n at i h
+      ∙ ap (λ (p : ColourStep). after_packet levels b p (λ at' i'. packets levels b (n - 1) at' i')) (sym q)
 
   -- a whole packet, which leaves e of d, and then the packets after it
   pub packets_on : (p : Pass) (d e : List ℕ) (n at i : ℕ) → 0 < n → (from to len next : ℕ) → Colours from to len next ≡ packet_at levels b at i

@@ -73,7 +73,11 @@ pub seen_gives : (p : Pass) (f : FrameWalk) (s : State) (a : Answer) (d e : List
     → record { answer : a ≡ f.answer; pixels : d ≡ wrote p f.pixels s.picture; colours : e ≡ wrote p f.colours s.palette }
 unfolding seen
 seen_gives p f s a d e q =
-    record { answer = sym (ap (λ (x : Answer × State). x.0) q); pixels = sym (ap (λ (x : Answer × State). x.1.picture) q); colours = sym (ap (λ (x : Answer × State). x.1.palette) q) }
+    record {
+      answer = sym (ap (λ (x : Answer × State). x.0) q);
+      pixels = sym (ap (λ (x : Answer × State). x.1.picture) q);
+      colours = sym (ap (λ (x : Answer × State). x.1.palette) q);
+    }
 
 seen_stop : (p : Pass) (a : Answer) (s : State) → seen p (stop a) s ≡ (a, s)
 unfolding seen
@@ -88,13 +92,21 @@ module _ (p : Pass) (at : ℕ) (c : ChunkWalk) (f : FrameWalk) (s : State) where
   seen_on : (end : ℕ) → c.verdict ≡ verdict.Ends end → seen p (chunk_then at c f) s ≡ seen p f (chunk_seen p c s)
   unfolding seen
   seen_on end v =
-      ap (λ (x : Verdict). (answer_after at x f.answer, state (wrote p (c.pixels ++ writes_after x f.pixels) s.picture) (wrote p (c.colours ++ writes_after x f.colours) s.palette))) v
+      ap (λ (x : Verdict). (
+        answer_after at x f.answer,
+        state (wrote p (c.pixels ++ writes_after x f.pixels) s.picture)
+            (wrote p (c.colours ++ writes_after x f.colours) s.palette),
+      )) v
       ∙ ap₂ (λ (d e : List ℕ). (f.answer, state d e)) (wrote_append p c.pixels f.pixels s.picture) (wrote_append p c.colours f.colours s.palette)
 
   seen_off : (e : Refusal) → c.verdict ≡ verdict.Fault e → seen p (chunk_then at c f) s ≡ (Refused e at, chunk_seen p c s)
   unfolding seen
   seen_off e v =
-      ap (λ (x : Verdict). (answer_after at x f.answer, state (wrote p (c.pixels ++ writes_after x f.pixels) s.picture) (wrote p (c.colours ++ writes_after x f.colours) s.palette))) v
+      ap (λ (x : Verdict). (
+        answer_after at x f.answer,
+        state (wrote p (c.pixels ++ writes_after x f.pixels) s.picture)
+            (wrote p (c.colours ++ writes_after x f.colours) s.palette),
+      )) v
       ∙ ap₂ (λ (d e' : List Write). (Refused e at, state (wrote p d s.picture) (wrote p e' s.palette))) (append-nil c.pixels) (append-nil c.colours)
 
 module _ (z : Size) (b : List ℕ) (p : Pass) (n at : ℕ) (s : State) where
@@ -107,14 +119,17 @@ module _ (z : Size) (b : List ℕ) (p : Pass) (n at : ℕ) (s : State) where
 
     -- a sub-chunk over which a pass left this verdict and this state
     module _ (kind end : ℕ) (q : header_at b at ≡ Chunk kind end) (t : State) (is : t ≡ chunk_seen p (sub_chunk z kind (part b (at + 6) end)) s) where
-      pub seen_good : (d : ℕ) → verdict.Ends d ≡ (sub_chunk z kind (part b (at + 6) end)).verdict → seen p (sub_chunks z b n at) s ≡ seen p (sub_chunks z b (n - 1) end) t
+      pub seen_good : (d : ℕ) → verdict.Ends d ≡ (sub_chunk z kind (part b (at + 6) end)).verdict → seen p (sub_chunks z b n at) s
+          ≡ seen p (sub_chunks z b (n - 1) end) t
       seen_good d v =
-          ap (λ (f : FrameWalk). seen p f s) (chunks_more z b n at i kind end q) ∙ seen_on p at (sub_chunk z kind (part b (at + 6) end)) (sub_chunks z b (n - 1) end) s d (sym v)
+          ap (λ (f : FrameWalk). seen p f s) (chunks_more z b n at i kind end q)
+          ∙ seen_on p at (sub_chunk z kind (part b (at + 6) end)) (sub_chunks z b (n - 1) end) s d (sym v)
           ∙ ap (seen p (sub_chunks z b (n - 1) end)) (sym is)
 
       pub seen_bad : (e : Refusal) → verdict.Fault e ≡ (sub_chunk z kind (part b (at + 6) end)).verdict → seen p (sub_chunks z b n at) s ≡ (Refused e at, t)
       seen_bad e v =
-          ap (λ (f : FrameWalk). seen p f s) (chunks_more z b n at i kind end q) ∙ seen_off p at (sub_chunk z kind (part b (at + 6) end)) (sub_chunks z b (n - 1) end) s e (sym v)
+          ap (λ (f : FrameWalk). seen p f s) (chunks_more z b n at i kind end q)
+          ∙ seen_off p at (sub_chunk z kind (part b (at + 6) end)) (sub_chunks z b (n - 1) end) s e (sym v)
           ∙ ap (λ (x : State). (Refused e at, x)) (sym is)
 
 -- a wet pass over a walk that is done has played it, and one over a walk that is refused doesn't matter: the state is put back

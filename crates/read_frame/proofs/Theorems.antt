@@ -89,9 +89,11 @@ module _ (b : List ℕ) (z : Size) (lent : State) where
   pub pair_kept : KeptPair b (area z) lent (read_frame b z lent).memory.first
   unfolding read_frame
   pair_kept =
-      by_test (λ c. Ok (require c else refuse BadSize 0 (lent_pair lent) then require enough (area z) lent else refuse ShortSlice 0 (lent_pair lent) then read_by (area z) (frame z b) (frame z b).answer lent))
+      by_test (λ c. Ok (require c else refuse BadSize 0 (lent_pair lent) then require enough (area z) lent else refuse ShortSlice 0 (lent_pair lent)
+      then read_by (area z) (frame z b) (frame z b).answer lent))
       (size_fits z)
-      (λ i. by_test (λ d. Ok (require d else refuse ShortSlice 0 (lent_pair lent) then read_by (area z) (frame z b) (frame z b).answer lent)) (enough (area z) lent)
+      (λ i. by_test (λ d. Ok (require d else refuse ShortSlice 0 (lent_pair lent) then read_by (area z) (frame z b) (frame z b).answer lent))
+      (enough (area z) lent)
       (λ e. go i e (frame z b).answer) (λ e. same_pair)) (λ i. same_pair)
     where
       Ok : Outcome → Type 0
@@ -107,7 +109,8 @@ module _ (b : List ℕ) (z : Size) (lent : State) where
             palette = kept_front 768 lent.palette (frame z b).colours n.1 s.in_palette;
             bytes = λ j k.
                 bytes_join (applied (frame z b).pixels (take (area z) lent.picture)) (drop (area z) lent.picture)
-                (bytes_applied (frame z b).pixels (take (area z) lent.picture) (s.of_bytes j).0 (bytes_take (area z) lent.picture k)) (bytes_drop (area z) lent.picture k);
+                (bytes_applied (frame z b).pixels (take (area z) lent.picture) (s.of_bytes j).0 (bytes_take (area z) lent.picture k))
+                (bytes_drop (area z) lent.picture k);
           }
 
 -- 3. the place
@@ -156,7 +159,8 @@ module _ (b : List ℕ) (z : Size) (lent : State) where
   place_within n place e = subst (SaidIn b) e (go (size_fits z) (enough (area z) lent) (frame z b).answer (frame_place z b))
     where
       go : (c d : Bool) (a : Answer) → PlaceIn b a
-          → SaidIn b (require c else refuse BadSize 0 (lent_pair lent) then require d else refuse ShortSlice 0 (lent_pair lent) then read_by (area z) (frame z b) a lent).said
+          → SaidIn b (require c else refuse BadSize 0 (lent_pair lent) then require d else refuse ShortSlice 0 (lent_pair lent) then read_by (area z)
+          (frame z b) a lent).said
       go false d a i = omega arith
       go true false a i = omega arith
       go true true Done i = tt

@@ -54,7 +54,8 @@ module _ {k : Walk} {end : ℕ} {v : List ℕ} (whole : k ≡ and_then 0 v (ends
 pub black_sound : (n : ℕ) (b : List ℕ) → Sound b n (black n)
 unfolding black
 black_sound n b =
-    sound_then b n 0 (replicate n 0) (ends 0) (omega (arith, length-replicate {A = ℕ} n 0)) (λ i. bytes_replicate n 0 (omega arith)) (sound_ends b n 0 (omega arith))
+    sound_then b n 0 (replicate n 0) (ends 0) (omega (arith, length-replicate {A = ℕ} n 0)) (λ i. bytes_replicate n 0 (omega arith))
+    (sound_ends b n 0 (omega arith))
 
 pub copied_sound : (n : ℕ) (b : List ℕ) → Sound b n (copied n b)
 unfolding copied

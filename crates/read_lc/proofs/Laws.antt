@@ -114,7 +114,9 @@ module _ (w h : ℕ) (b : List ℕ) where
   pub lc_sound : Sound b (w * h) (lc w h b)
   unfolding lc
   lc_sound =
-      by_test (λ t. Sound b (w * h) (require t else fault BodyEnds then require leb (u16_at b 0 + u16_at b 2) h else fault PastHeight then rows w b (u16_at b 2) (u16_at b 0) 4)) (leb 4 (length b))
+      by_test (λ t. Sound b (w * h)
+      (require t else fault BodyEnds then require leb (u16_at b 0 + u16_at b 2) h else fault PastHeight then rows w b (u16_at b 2) (u16_at b 0)
+      4)) (leb 4 (length b))
       (λ c. by_test (λ t. Sound b (w * h) (require t else fault PastHeight then rows w b (u16_at b 2) (u16_at b 0) 4)) (leb (u16_at b 0 + u16_at b 2) h)
       (λ d. rows_sound w b h (u16_at b 2) (u16_at b 0) 4 (leb-true _ _ c) (leb-true _ _ d)) (λ d. sound_fault b (w * h) PastHeight))
       (λ c. sound_fault b (w * h) BodyEnds)

@@ -87,7 +87,8 @@ pairs_word p q m h k e =
     rw (a.0, b.0, c.0, d.0)
 
 -- two to four of them: the first two, and then the last two
-pub few_pairs : (l v : List ℕ) (n p q : ℕ) → v ≡ p ∷ (q ∷ (p ∷ (q ∷ []))) → length l ≡ 2 * n → 2 ≤ n → n ≤ 4 → put (put l 0 v) (2 * n - 4) v ≡ repeated n (p ∷ (q ∷ []))
+pub few_pairs : (l v : List ℕ) (n p q : ℕ) → v ≡ p ∷ (q ∷ (p ∷ (q ∷ []))) → length l ≡ 2 * n → 2 ≤ n → n ≤ 4 → put (put l 0 v) (2 * n - 4) v
+    ≡ repeated n (p ∷ (q ∷ []))
 unfolding repeated
 few_pairs l v n p q e s h k =
     let four : length v ≡ 4 = ap length e in

@@ -139,7 +139,8 @@ module _ (h : ℕ) (b : List ℕ) (at row : ℕ) where
 module _ (w : ℕ) (b : List ℕ) (row : ℕ) where
   -- it writes its last pixel, and then what its packets write
   pub line_wrote : (p : Pass) (last : LastPixel) (count from : ℕ) (d : List ℕ)
-      → wrote p (line_walk w b row last count from).writes d ≡ wrote p (packets 2 w b count row from 0).writes (wrote p (last_first w row last (ends 0)).writes d)
+      → wrote p (line_walk w b row last count from).writes d
+      ≡ wrote p (packets 2 w b count row from 0).writes (wrote p (last_first w row last (ends 0)).writes d)
   unfolding line_walk
   line_wrote p Kept count from d = ap (wrote p (packets 2 w b count row from 0).writes) (sym (wrote_none p d))
   line_wrote p (Set v) count from d =
@@ -154,14 +155,17 @@ module _ (w : ℕ) (b : List ℕ) (row : ℕ) where
 
   -- its data ends within the body, also where there is no column
   pub line_ends : (last : LastPixel) (count from : ℕ) → from ≤ length b → VerdictIn b (line_walk w b row last count from).verdict
-  line_ends last count from k = subst (VerdictIn b) (sym (line_packets_lem last count from)) (packets_sound 2 w b (row + 1) count row from 0 k (omega arith)).ends_in
+  line_ends last count from k = subst (VerdictIn b) (sym (line_packets_lem last count from))
+      (packets_sound 2 w b (row + 1) count row from 0 k (omega arith)).ends_in
 
   -- it writes bytes of the body, within a picture of h rows
-  pub line_sound : (h : ℕ) (last : LastPixel) (count from : ℕ) → PixelByte last → from ≤ length b → 1 ≤ w → row < h → Sound b (w * h) (line_walk w b row last count from)
+  pub line_sound : (h : ℕ) (last : LastPixel) (count from : ℕ) → PixelByte last → from ≤ length b → 1 ≤ w → row < h
+      → Sound b (w * h) (line_walk w b row last count from)
   unfolding line_walk
   line_sound h Kept count from p i k l = packets_sound 2 w b h count row from 0 i l
   line_sound h (Set v) count from p i k l =
-      sound_then b (w * h) (row * w + (w - 1)) (v ∷ []) (packets 2 w b count row from 0) (omega (arith, row_in w h row l)) (λ j. (p, tt)) (packets_sound 2 w b h count row from 0 i l)
+      sound_then b (w * h) (row * w + (w - 1)) (v ∷ []) (packets 2 w b count row from 0) (omega (arith, row_in w h row l)) (λ j. (p, tt))
+      (packets_sound 2 w b h count row from 0 i l)
 
 -- lines
 
@@ -192,7 +196,8 @@ module _ (w h : ℕ) (b : List ℕ) where
   unfolding lines
   lines_as zero row at i l e = absurd (not-suc-le-zero i)
   lines_as (suc n) row at i l e =
-      ap₂ (λ (x : Line) (m : ℕ). after_line w h b row x (λ end. lines w h b (h - row) 0 m (row + 1) end) (λ k. lines w h b (h - row) (k - 1) (suc n) (row + 1) (at + 2)))
+      ap₂ (λ (x : Line) (m : ℕ). after_line w h b row x (λ end. lines w h b (h - row) 0 m (row + 1) end)
+      (λ k. lines w h b (h - row) (k - 1) (suc n) (row + 1) (at + 2)))
       e (sym (sub-one (suc n)))
 
   module _ (n row at : ℕ) (some : 0 < n) where
@@ -235,7 +240,8 @@ module _ (w h : ℕ) (b : List ℕ) where
   lines_sound (suc r) (suc skip) n row at i k = lines_sound r skip n (row + 1) at i k
   lines_sound (suc r) zero zero row at i k = sound_ends b (w * h) at i
   lines_sound (suc r) zero (suc n) row at i k =
-      go (line_at h b at row) (line_there_in h b at row) (λ end j. lines_sound r 0 n (row + 1) end j k) (λ m j. lines_sound r (m - 1) (suc n) (row + 1) (at + 2) j k)
+      go (line_at h b at row) (line_there_in h b at row) (λ end j. lines_sound r 0 n (row + 1) end j k)
+      (λ m j. lines_sound r (m - 1) (suc n) (row + 1) (at + 2) j k)
     where
       go : (l : Line) → LineIn h b at row l
           → ((end : ℕ) → end ≤ length b → Sound b (w * h) (lines w h b r 0 n (row + 1) end))

@@ -102,7 +102,8 @@ module _ (end : ℕ) (f b : List ℕ) where
     append_done n q =
         room_done (fits end f b) (end + length f) b (put b end f) x n (ap (λ (y : Written). leaves (told_written y) (lent_bytes x)) (sym q) ∙ o)
 
-    pub append_refused : (e : Refusal) (place : ℕ) → a ≡ Refused e place → (fits end f b ≡ false) × (refused (number e) place ≡ refused (number NoRoom) 0) × (x ≡ b)
+    pub append_refused : (e : Refusal) (place : ℕ) → a ≡ Refused e place → (fits end f b ≡ false)
+        × (refused (number e) place ≡ refused (number NoRoom) 0) × (x ≡ b)
     append_refused e place q =
         room_refused (fits end f b) (end + length f) b (put b end f) x (refused (number e) place) (number e) place refl
         (ap (λ (y : Written). leaves (told_written y) (lent_bytes x)) (sym q) ∙ o)
@@ -120,7 +121,8 @@ module _ (b f : List ℕ) (end k : ℕ) (e : end + k ≡ longest (length b)) whe
   put_part h =
       let d = drop end b in
       let rest : drop (length f) (take k d) ++ drop k d ≡ drop (end + length f) b =
-      sym (drop-append-le (length f) (take k d) (drop k d) (omega (arith, behind_long))) ∙ ap (drop (length f)) (take-append-drop k d) ∙ drop-drop (length f) end b in
+      sym (drop-append-le (length f) (take k d) (drop k d) (omega (arith, behind_long))) ∙ ap (drop (length f)) (take-append-drop k d)
+      ∙ drop-drop (length f) end b in
       ap (λ (x : List ℕ). take end b ++ (x ++ drop k d)) (put_front (take k d) f)
       ∙ ap (λ (x : List ℕ). take end b ++ x) (append_assoc f (drop (length f) (take k d)) (drop k d) ∙ ap (λ (x : List ℕ). f ++ x) rest)
 
@@ -132,10 +134,12 @@ module _ (b f : List ℕ) (end k : ℕ) (e : end + k ≡ longest (length b)) whe
     -- the answer about the part is that about b, and what is done ends that much further on
     pub append_more : (n : ℕ) → a ≡ Done n → (leaves (done ((end + n) ∷ [])) (lent_bytes whole) ≡ appended end f b) × (end + n ≤ most_bytes)
     append_more n q =
-        let t = room_done (leb (length f) (length behind)) (length f) behind (put behind 0 f) x n (ap (λ (y : Written). leaves (told_written y) (lent_bytes x)) (sym q) ∙ o) in
+        let t = room_done (leb (length f) (length behind)) (length f) behind (put behind 0 f) x n
+        (ap (λ (y : Written). leaves (told_written y) (lent_bytes x)) (sym q) ∙ o) in
         let h : length f ≤ k = omega (arith, leb-true (length f) (length behind) t.0, behind_long) in
         let i = fits_is end f b (omega arith) in (
-          ap₂ (λ (m : ℕ) (y : List ℕ). leaves (done ((end + m) ∷ [])) (lent_bytes y)) t.1 (ap (λ (y : List ℕ). take end b ++ (y ++ drop k (drop end b))) t.2 ∙ put_part h) ∙ rw i,
+          ap₂ (λ (m : ℕ) (y : List ℕ). leaves (done ((end + m) ∷ [])) (lent_bytes y)) t.1
+              (ap (λ (y : List ℕ). take end b ++ (y ++ drop k (drop end b))) t.2 ∙ put_part h) ∙ rw i,
           omega (arith, t.1, (fits_in end f b i).1),
         )
 
@@ -237,7 +241,8 @@ module _ (r : Reel) (b : List ℕ) (s t : State) (i : Passed r b s t) (a : Writt
   pub add_done : (end : ℕ) → a ≡ Done end → builds (reel_of r.size (r.frames + 1) end false) (leaves (done []) (lent_bytes x)) ≡ add_frame r b s t
   add_done end q =
       let d = append_done r.end f b a x asked end q in
-      ap₂ (λ (u : ℕ) (y : List ℕ). builds (reel_of r.size (r.frames + 1) u false) (leaves (done []) (lent_bytes y))) d.1 d.2 ∙ sym (add_passed r b s t i ∙ rw d.0)
+      ap₂ (λ (u : ℕ) (y : List ℕ). builds (reel_of r.size (r.frames + 1) u false) (leaves (done []) (lent_bytes y))) d.1 d.2
+      ∙ sym (add_passed r b s t i ∙ rw d.0)
 
   pub add_stopped : (e : Refusal) (place : ℕ) → a ≡ Refused e place → keeps r e place (lent_bytes x) ≡ add_frame r b s t
   add_stopped e place q =

@@ -37,7 +37,8 @@ ring_compared x ring next q r k e f =
     ap (λ (z : Ran). ringed z x.last x.one) q ∙ ap (λ (t : Bool). cond t Done (Refused BadRing ring)) (sym e ∙ f)
 
 -- what the check of frames tells where they came to x: its answer and both states
-pub ring_told : (x y : Shown) → x ≡ y → (a : Answer) → ring_answer x ≡ a → record { answer : a ≡ ring_answer y; first : x.last ≡ y.last; second : x.one ≡ y.one }
+pub ring_told : (x y : Shown) → x ≡ y → (a : Answer) → ring_answer x ≡ a
+    → record { answer : a ≡ ring_answer y; first : x.last ≡ y.last; second : x.one ≡ y.one }
 ring_told x y e a q = record { answer = sym q ∙ ap ring_answer e; first = ap (λ (z : Shown). z.last) e; second = ap (λ (z : Shown). z.one) e }
 
 -- the check of a reel
@@ -52,7 +53,8 @@ module _ (b : List ℕ) (first second : State) where
     unfolding check_reel
     check_short i = ap (λ (x : Head). after_head b x first second) k ∙ rw i
 
-    pub check_second_short : enough (area z) first ≡ true → enough (area z) second ≡ false → check_reel b first second ≡ refuse ShortSlice 0 (lent_pairs first second)
+    pub check_second_short : enough (area z) first ≡ true → enough (area z) second ≡ false → check_reel b first second
+        ≡ refuse ShortSlice 0 (lent_pairs first second)
     unfolding check_reel
     check_second_short i j = ap (λ (x : Head). after_head b x first second) k ∙ rw (i, j)
 
@@ -68,6 +70,8 @@ module _ (b : List ℕ) (first second : State) where
     check_laid i j m n em en a s t ea es et =
         ap (λ (l : ℕ). leaves (told a) (lent_pairs (refilled l s first) (refilled l t second))) em
         ∙ ap₂ (λ (u v : State). leaves (told a) (lent_pairs (refilled (area z) u first) (refilled (area z) v second))) es et
-        ∙ ap (λ (y : Answer). leaves (told y) (lent_pairs (refilled (area z) (play_all Loose count z (take n b)).last first) (refilled (area z) (play_all Loose count z (take n b)).one second))) ea
+        ∙ ap (λ (y : Answer). leaves (told y)
+        (lent_pairs (refilled (area z) (play_all Loose count z (take n b)).last first)
+        (refilled (area z) (play_all Loose count z (take n b)).one second))) ea
         ∙ ap (λ (l : ℕ). checked_by (area z) (play_all Loose count z (take l b)) first second) en
         ∙ sym (check_played i j)

@@ -72,14 +72,19 @@ module _ (r : Reel) (b : List ℕ) where
   own_record e = rw e
 
   -- m: the length of the part that is played; x: what that showed
-  pub own_played : end_ok r.end (length b) ≡ true → (m : ℕ) → m ≡ r.end → (x : Shown) → x ≡ play_all Packed (r.frames - 1) r.size (take m b) → own_playing r b ≡ x
+  pub own_played : end_ok r.end (length b) ≡ true → (m : ℕ) → m ≡ r.end → (x : Shown) → x ≡ play_all Packed (r.frames - 1) r.size (take m b)
+      → own_playing r b ≡ x
   unfolding own_playing
   own_played e m em x o = rw e (ap (λ (l : ℕ). play_all Packed (r.frames - 1) r.size (take l b)) (sym em) ∙ sym o)
 
   -- what the close of frames tells where its own playing was x: the outcome and both states
   pub own_told : (x : Shown) → own_playing r b ≡ x → (o : ReelOutcome) → o ≡ close_frames r b x
       → record { bytes : o ≡ close_frames r b (own_playing r b); first : x.last ≡ (own_playing r b).last; second : x.one ≡ (own_playing r b).one }
-  own_told x e o q = record { bytes = q ∙ ap (close_frames r b) (sym e); first = ap (λ (y : Shown). y.last) (sym e); second = ap (λ (y : Shown). y.one) (sym e) }
+  own_told x e o q = record {
+    bytes = q ∙ ap (close_frames r b) (sym e);
+    first = ap (λ (y : Shown). y.last) (sym e);
+    second = ap (λ (y : Shown). y.one) (sym e);
+  }
 
   -- close_frames
 
@@ -133,7 +138,8 @@ module _ (r : Reel) (b : List ℕ) (first second : State) (i : Passed r first se
   close_played = rw (i.taken, i.sized, i.first_long, i.second_long)
 
   -- the pairs' fronts hold the states; m: the length of the range up to width times height
-  pub close_laid : (m : ℕ) → m ≡ area r.size → (o : ReelOutcome) (s t : State) → o ≡ close_frames r b (own_playing r b) → s ≡ (own_playing r b).last → t ≡ (own_playing r b).one
+  pub close_laid : (m : ℕ) → m ≡ area r.size → (o : ReelOutcome) (s t : State) → o ≡ close_frames r b (own_playing r b) → s ≡ (own_playing r b).last
+      → t ≡ (own_playing r b).one
       → with_pairs o (refilled m s first) (refilled m t second) ≡ close_reel r b first second
   close_laid m em o s t eo es et =
       ap (λ (l : ℕ). with_pairs o (refilled l s first) (refilled l t second)) em

@@ -30,11 +30,15 @@ put_other d v at i h (inr k) =
     ∙ ap (λ (m : ℕ). get_or d m 0) g
 
 module _ (i : ℕ) (d : List ℕ) (long : HEADER_BYTES ≤ length d) where
-  counted_keeps : (size frames : ℕ) → 4 ≤ i → (i < 6) ⊎ (8 ≤ i) → (length (counted size frames d) ≡ length d) × (get_or (counted size frames d) i 0 ≡ get_or d i 0)
+  counted_keeps : (size frames : ℕ) → 4 ≤ i → (i < 6) ⊎ (8 ≤ i) → (length (counted size frames d) ≡ length d)
+      × (get_or (counted size frames d) i 0 ≡ get_or d i 0)
   counted_keeps size frames s f =
       let d₁ = put d SIZE_AT (le32 size []) in
-      let l₁ = length_put d SIZE_AT (le32 size []) (omega arith) in
-      (length_put d₁ FRAMES_AT (le16 frames []) (omega arith) ∙ l₁, put_other d₁ (le16 frames []) FRAMES_AT i (omega arith) f ∙ put_other d (le32 size []) SIZE_AT i (omega arith) (inr s))
+      let l₁ = length_put d SIZE_AT (le32 size []) (omega arith) in (
+        length_put d₁ FRAMES_AT (le16 frames []) (omega arith) ∙ l₁,
+        put_other d₁ (le16 frames []) FRAMES_AT i (omega arith) f
+            ∙ put_other d (le32 size []) SIZE_AT i (omega arith) (inr s),
+      )
 
   flagged_keeps : (second : ℕ) → (i < 14) ⊎ (16 ≤ i) → (i < 80) ⊎ (88 ≤ i) → get_or (flagged second d) i 0 ≡ get_or d i 0
   flagged_keeps second g o =
@@ -50,7 +54,8 @@ module _ (i : ℕ) (d : List ℕ) (long : HEADER_BYTES ≤ length d) where
       before_or_behind at h k (inl x) = inl (omega arith)
       before_or_behind at h k (inr x) = inr (omega arith)
 
-pub closed_keeps : (f : Format) (i : ℕ) → Other f i → (d : List ℕ) (size frames second : ℕ) → HEADER_BYTES ≤ length d → get_or (closed_header f size frames second d) i 0 ≡ get_or d i 0
+pub closed_keeps : (f : Format) (i : ℕ) → Other f i → (d : List ℕ) (size frames second : ℕ) → HEADER_BYTES ≤ length d
+    → get_or (closed_header f size frames second d) i 0 ≡ get_or d i 0
 unfolding closed_header
 closed_keeps Flc i o d size frames second h =
     let k = counted_keeps i d h size frames o.not_size o.not_frames in

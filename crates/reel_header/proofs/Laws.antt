@@ -33,7 +33,8 @@ use Rattle.reel_header.specs.Written.{aspect, FLIB, blank_header, opened, opened
 
 -- its chain of checks, each test and each value as it came out
 pub head_is : (takes : Takes) (b : List ℕ) (magic size : ℕ) (z : Size) (frames depth flags : ℕ) (speed : Milliseconds) (long taken least most fits form : Bool)
-    → magic ≡ u16_at b MAGIC_AT → size ≡ u32_at b SIZE_AT → z ≡ size_at b → frames ≡ u16_at b FRAMES_AT → depth ≡ u16_at b DEPTH_AT → flags ≡ u16_at b FLAGS_AT → speed ≡ delay_at z.format b
+    → magic ≡ u16_at b MAGIC_AT → size ≡ u32_at b SIZE_AT → z ≡ size_at b → frames ≡ u16_at b FRAMES_AT → depth ≡ u16_at b DEPTH_AT → flags
+    ≡ u16_at b FLAGS_AT → speed ≡ delay_at z.format b
     → leb HEADER_BYTES (length b) ≡ long → magic_ok takes magic ≡ taken → leb HEADER_BYTES size ≡ least → leb size (length b) ≡ most
     → size_fits z ≡ fits → form_ok z.format depth frames flags ≡ form
     → (require long else head.Fault Cut then
@@ -113,9 +114,17 @@ Gives takes b (head.Fault e) = Unit {0}
 Gives takes b (head.Reel z frames size speed) = head_of takes b ≡ head.Reel z frames size speed
 
 -- what is taken where FLC alone is taken is taken where both are
-pub head_flc : (b : List ℕ) (z : Size) (frames size : ℕ) (speed : Milliseconds) → head_of FlcOnly b ≡ head.Reel z frames size speed → head_of Both b ≡ head.Reel z frames size speed
+pub head_flc : (b : List ℕ) (z : Size) (frames size : ℕ) (speed : Milliseconds) → head_of FlcOnly b ≡ head.Reel z frames size speed → head_of Both b
+    ≡ head.Reel z frames size speed
 head_flc b z frames size speed = head_by FlcOnly b (Gives Both b) (λ e. tt) (λ p.
-    head_whole Both b (record { long = p.long; magic = rw p.magic; least = p.least; most = p.most; sized = p.sized; form = p.form })) (head.Reel z frames size speed)
+    head_whole Both b (record {
+      long = p.long;
+      magic = rw p.magic;
+      least = p.least;
+      most = p.most;
+      sized = p.sized;
+      form = p.form;
+    })) (head.Reel z frames size speed)
 
 -- opened, opened_fli
 
@@ -143,24 +152,28 @@ opened_in_length Flc w h speed = refl
 opened_in_length Fli w h speed = refl
 
 -- the fields of an opened header, each stored in what stood before
-pub blank_stored : (magic w h : ℕ) (d₀ d₁ d₂ d₃ d₄ : List ℕ) → d₀ ≡ replicate HEADER_BYTES 0 → d₁ ≡ put d₀ MAGIC_AT (le16 magic []) → d₂ ≡ put d₁ WIDTH_AT (le16 w [])
+pub blank_stored : (magic w h : ℕ) (d₀ d₁ d₂ d₃ d₄ : List ℕ) → d₀ ≡ replicate HEADER_BYTES 0 → d₁ ≡ put d₀ MAGIC_AT (le16 magic []) → d₂
+    ≡ put d₁ WIDTH_AT (le16 w [])
     → d₃ ≡ put d₂ HEIGHT_AT (le16 h []) → d₄ ≡ put d₃ DEPTH_AT (le16 DEPTH []) → d₄ ≡ blank_header magic w h
 unfolding blank_header
 blank_stored magic w h d₀ d₁ d₂ d₃ d₄ e₀ e₁ e₂ e₃ e₄ = rw (e₄, e₃, e₂, e₁, e₀)
 
-pub opened_stored : (w h : ℕ) (speed : Milliseconds) (d₀ d₁ d₂ d₃ d₄ d₅ : List ℕ) (x y : ℕ) → d₀ ≡ blank_header FLC_MAGIC w h → d₁ ≡ put d₀ SPEED_AT (le32 speed.0 [])
+pub opened_stored : (w h : ℕ) (speed : Milliseconds) (d₀ d₁ d₂ d₃ d₄ d₅ : List ℕ) (x y : ℕ) → d₀ ≡ blank_header FLC_MAGIC w h → d₁
+    ≡ put d₀ SPEED_AT (le32 speed.0 [])
     → d₂ ≡ put d₁ CREATOR_AT (le32 FLIB []) → d₃ ≡ put d₂ UPDATER_AT (le32 FLIB []) → x ≡ aspect w h 6 → d₄ ≡ put d₃ ASPECTX_AT (le16 x [])
     → y ≡ aspect w h 5 → d₅ ≡ put d₄ ASPECTY_AT (le16 y []) → d₅ ≡ opened w h speed
 unfolding blank_header opened
 opened_stored w h speed d₀ d₁ d₂ d₃ d₄ d₅ x y e₀ e₁ e₂ e₃ i e₄ j e₅ = rw (e₅, e₄, e₃, e₂, e₁, e₀, i, j)
 
-pub opened_fli_stored : (w h : ℕ) (speed : Jiffies) (d₀ d₁ : List ℕ) → d₀ ≡ blank_header FLI_MAGIC w h → d₁ ≡ put d₀ SPEED_AT (le16 speed.0 []) → d₁ ≡ opened_fli w h speed
+pub opened_fli_stored : (w h : ℕ) (speed : Jiffies) (d₀ d₁ : List ℕ) → d₀ ≡ blank_header FLI_MAGIC w h → d₁ ≡ put d₀ SPEED_AT (le16 speed.0 []) → d₁
+    ≡ opened_fli w h speed
 unfolding blank_header opened_fli
 opened_fli_stored w h speed d₀ d₁ e₀ e₁ = rw (e₁, e₀)
 
 -- closed_header, second_at
 
-pub closed_flc : (size frames second : ℕ) (d d₁ d₂ d₃ : List ℕ) → d₁ ≡ put d SIZE_AT (le32 size []) → d₂ ≡ put d₁ FRAMES_AT (le16 frames []) → d₃ ≡ flagged second d₂
+pub closed_flc : (size frames second : ℕ) (d d₁ d₂ d₃ : List ℕ) → d₁ ≡ put d SIZE_AT (le32 size []) → d₂ ≡ put d₁ FRAMES_AT (le16 frames []) → d₃
+    ≡ flagged second d₂
     → d₃ ≡ closed_header Flc size frames second d
 unfolding closed_header
 closed_flc size frames second d d₁ d₂ d₃ e₁ e₂ e₃ = rw (e₃, e₂, e₁)
@@ -214,7 +227,8 @@ header_length Fli size frames w h speed second = refl
 pub header_speed : (f : Format) (size frames w h speed second : ℕ) (x : List ℕ) → speed < 4294967296
     → delay_at f (header_in f size frames w h speed second ++ x) ≡ delay_in f speed
 unfolding header_in
-header_speed Flc size frames w h speed second x quick = ap (delay_in Flc) (there_le32 (header_in Flc size frames w h speed second ++ x) _ SPEED_AT speed quick refl)
+header_speed Flc size frames w h speed second x quick =
+    ap (delay_in Flc) (there_le32 (header_in Flc size frames w h speed second ++ x) _ SPEED_AT speed quick refl)
 header_speed Fli size frames w h speed second x quick = ap (delay_in Fli) (there_le16 (header_in Fli size frames w h speed second ++ x) _ SPEED_AT speed refl)
 
 module _ (z : Size) (size frames speed second : ℕ) (x : List ℕ) where
@@ -228,7 +242,8 @@ module _ (z : Size) (size frames speed second : ℕ) (x : List ℕ) where
   field at v more e = sym (there_le16 file more at v (ap (drop at) (header_begun z.format size frames z.width z.height speed second x) ∙ e))
 
   pub header_read : size_fits z ≡ true → 1 ≤ frames → frames ≤ max_frames → size < 4294967296 → HEADER_BYTES ≤ size → size ≤ length file
-      → head_of Both (header_in z.format size frames z.width z.height speed second ++ x) ≡ head.Reel z frames size (delay_at z.format (header_in z.format size frames z.width z.height speed second ++ x))
+      → head_of Both (header_in z.format size frames z.width z.height speed second ++ x)
+      ≡ head.Reel z frames size (delay_at z.format (header_in z.format size frames z.width z.height speed second ++ x))
   header_read fits some few word least most =
       let f = z.format in
       let magic = field MAGIC_AT (magic_of f) _ refl in

@@ -88,7 +88,8 @@ module _ (z : Size) (speed : ℕ) (ok : size_fits z ≡ true) (first : State) (r
   unfolding check_reel
   file_accepted p q e f =
       ap (λ (x : Head). (after_head file x p q).said) file_read
-      ∙ ap₂ (λ (s t : Bool). (cond (s && t) (checked_by (area z) (play_all Loose (suc (length rest)) z (take size file)) p q) (refuse ShortSlice 0 (lent_pairs p q))).said) e f
+      ∙ ap₂ (λ (s t : Bool).
+      (cond (s && t) (checked_by (area z) (play_all Loose (suc (length rest)) z (take size file)) p q) (refuse ShortSlice 0 (lent_pairs p q))).said) e f
       ∙ ap (λ (x : Shown). told (ring_answer x)) played
       ∙ ap₂ (λ (s t : Bool). told (cond (s && t) said.Done (said.Refused BadRing plays.last))) (same_refl first.picture) (same_refl first.palette)
 
@@ -198,7 +199,8 @@ module _ (z : Size) (speed : ℕ) (b : List ℕ) (r : Reel) (first : State) (res
   cut : take (HEADER_BYTES + length all_frames) whole ≡ top_is ++ all_frames
   cut =
       ap (take (HEADER_BYTES + length all_frames)) (sym (append_assoc top_is all_frames left))
-      ∙ take_at (top_is ++ all_frames) left (HEADER_BYTES + length all_frames) (length-append top_is all_frames ∙ ap (λ (k : ℕ). k + length all_frames) top_is_long)
+      ∙ take_at (top_is ++ all_frames) left (HEADER_BYTES + length all_frames)
+      (length-append top_is all_frames ∙ ap (λ (k : ℕ). k + length all_frames) top_is_long)
 
   finished : fits end ring b ≡ true → Finished z speed first rest (top_is ++ all_frames) closed_reel
   finished k =
@@ -214,7 +216,8 @@ module _ (z : Size) (speed : ℕ) (b : List ℕ) (r : Reel) (first : State) (res
         header = take_at top_is all_frames HEADER_BYTES top_is_long;
         header_read = λ quick.
             file_read z speed ok first rest i.few all_frames shows second_is word
-            ∙ ap (head.Reel z count (HEADER_BYTES + length all_frames)) (header_speed z.format (HEADER_BYTES + length all_frames) count z.width z.height speed second_is all_frames quick);
+            ∙ ap (head.Reel z count (HEADER_BYTES + length all_frames))
+            (header_speed z.format (HEADER_BYTES + length all_frames) count z.width z.height speed second_is all_frames quick);
         oframe1_is = two.frame_1;
         third = two.third;
         oframe2_is = two.frame_2;
@@ -228,7 +231,10 @@ module _ (z : Size) (speed : ℕ) (b : List ℕ) (r : Reel) (first : State) (res
   -- with room for the ring
   ring_fits : fits end ring b ≡ true → ring_written open_reel_lem ring b ≡ closes
   ring_fits k =
-      ap (λ (t : Bool). cond t (builds (reel_of z count (end + length ring) true) (leaves (done []) (lent_bytes (closed_header z.format (end + length ring) count (second_at b) (put b end ring))))) (keeps open_reel_lem NoRoom 0 (lent_bytes b))) k
+      ap (λ (t : Bool). cond t
+      (builds (reel_of z count (end + length ring) true)
+      (leaves (done []) (lent_bytes (closed_header z.format (end + length ring) count (second_at b) (put b end ring)))))
+      (keeps open_reel_lem NoRoom 0 (lent_bytes b))) k
       ∙ ap₂ (λ (n : ℕ) (x : List ℕ). builds (reel_of z count n true) (leaves (done []) (lent_bytes x))) size_is file_is
 
   -- and without
@@ -255,17 +261,21 @@ module _ (z : Size) (speed : ℕ) (b : List ℕ) (r : Reel) (first : State) (res
     ring_fine : Fine (with_pairs_lem (ring_written open_reel_lem ring b))
     ring_fine =
         by_test (λ t. Fine (with_pairs_lem (ring_written open_reel_lem ring b))) (fits end ring b)
-        (λ k. subst (λ (o : ReelOutcome). Fine (with_pairs_lem o)) (sym (ring_fits k)) (λ d. subst (λ (x : List ℕ). Finished z speed first rest x closed_reel) (sym cut) (finished k)))
-        (λ k. subst (λ (o : ReelOutcome). Fine (with_pairs_lem o)) (sym (ring_out k)) (refused_fine NoRoom 0 open_reel_lem (with_pairs_lem (keeps open_reel_lem NoRoom 0 (lent_bytes b))).left.memory))
+        (λ k. subst (λ (o : ReelOutcome). Fine (with_pairs_lem o)) (sym (ring_fits k))
+        (λ d. subst (λ (x : List ℕ). Finished z speed first rest x closed_reel) (sym cut) (finished k)))
+        (λ k. subst (λ (o : ReelOutcome). Fine (with_pairs_lem o)) (sym (ring_out k))
+        (refused_fine NoRoom 0 open_reel_lem (with_pairs_lem (keeps open_reel_lem NoRoom 0 (lent_bytes b))).left.memory))
 
     close_fine : Fine (close_reel open_reel_lem b p q)
     close_fine =
         by_test (λ t. Fine (close_reel open_reel_lem b p q)) (enough (area z) p)
         (λ e. by_test (λ t. Fine (close_reel open_reel_lem b p q)) (enough (area z) q)
-        (λ f. subst Fine (sym (close_is e f)) ring_fine) (λ f. subst Fine (sym (close_second_short open_reel_lem b p q taken ok e f)) (refused_fine ShortSlice 0 open_reel_lem (lent_bytes_pairs b p q))))
+        (λ f. subst Fine (sym (close_is e f)) ring_fine)
+        (λ f. subst Fine (sym (close_second_short open_reel_lem b p q taken ok e f)) (refused_fine ShortSlice 0 open_reel_lem (lent_bytes_pairs b p q))))
         (λ e. subst Fine (sym (close_short open_reel_lem b p q taken ok e)) (refused_fine ShortSlice 0 open_reel_lem (lent_bytes_pairs b p q)))
 
-    pub close_finishes : (close_reel r b p q).left.said ≡ done [] → Finished z speed first rest (take (close_reel r b p q).reel.end (close_reel r b p q).left.memory.bytes) (close_reel r b p q).reel
+    pub close_finishes : (close_reel r b p q).left.said ≡ done []
+        → Finished z speed first rest (take (close_reel r b p q).reel.end (close_reel r b p q).left.memory.bytes) (close_reel r b p q).reel
     close_finishes = subst (λ (x : Reel). Fine (close_reel x b p q)) (sym i.is) close_fine
 
     -- it is done where both pairs hold a state and there is room for a frame
@@ -282,7 +292,8 @@ module _ (z : Size) (speed : ℕ) (b : List ℕ) (r : Reel) (first : State) (res
 -- The builder's promise: an open, adds each handed what the last accepted one asked for, and a close.
 
 module _ (z : Size) (speed : ℕ) {b : List ℕ} {r : Reel} {first : State} {rest : List State} (m : Making z speed b r (first ∷ rest)) (p q : State) where
-  pub built_shows : (close_reel r b p q).left.said ≡ done [] → Finished z speed first rest (take (close_reel r b p q).reel.end (close_reel r b p q).left.memory.bytes) (close_reel r b p q).reel
+  pub built_shows : (close_reel r b p q).left.said ≡ done []
+      → Finished z speed first rest (take (close_reel r b p q).reel.end (close_reel r b p q).left.memory.bytes) (close_reel r b p q).reel
   built_shows = close_finishes z speed b r first rest (making_holds z speed m) p q
 
   pub close_can_be_done : enough (area z) p ≡ true → enough (area z) q ≡ true → r.end + frame_most ≤ length b → r.end + frame_most ≤ most_bytes

@@ -48,7 +48,8 @@ module _ (z : Size) (b : List ℕ) where
     pub next_is : next ≡ HEADER_BYTES + length bytes
 
   all_through : (more from to : ℕ) (last one : State) → play_all Packed more z b ≡ shown (To from to) last one → All more to one
-  all_through more from to last one e = by (one_frame Packed z b HEADER_BYTES (blank (area z))).result (one_frame Packed z b HEADER_BYTES (blank (area z))).after refl
+  all_through more from to last one e = by (one_frame Packed z b HEADER_BYTES (blank (area z))).result
+      (one_frame Packed z b HEADER_BYTES (blank (area z))).after refl
     where
       by : (x : Ran) (u : State) → one_frame Packed z b HEADER_BYTES (blank (area z)) ≡ ran x u → All more to one
       by (Stopped f place) u o =
@@ -99,7 +100,8 @@ module _ (speed : ℕ) (r : Reel) (b : List ℕ) (bytes-in : Bytes b) (header_in
           let l₂ = length-drop HEADER_BYTES c in
           let at : r.end ≡ HEADER_BYTES + length own-bytes = omega (arith, a.next_is, i.0) in
           let none_left : length (drop to c) ≡ 0 = omega arith in
-          let frames-are : drop HEADER_BYTES c ≡ own-bytes = a.there ∙ ap (λ (y : List ℕ). own-bytes ++ y) (empty (drop to c) none_left) ∙ append-nil own-bytes in
+          let frames-are : drop HEADER_BYTES c ≡ own-bytes = a.there ∙ ap (λ (y : List ℕ). own-bytes ++ y) (empty (drop to c) none_left)
+          ∙ append-nil own-bytes in
           let front : take HEADER_BYTES c ≡ opened_in z.format z.width z.height speed = take-take HEADER_BYTES r.end b i.0 ∙ header_in in
           record {
             first = x.one;
@@ -158,6 +160,7 @@ module _ (speed : ℕ) (r : Reel) (b : List ℕ) (bytes-in : Bytes b) (header_in
         let room = enough_is (area z) o (omega (arith, start.picture.pixels)) (omega (arith, start.colours)) in
         record {
           long = done-is.long;
-          accepted = λ s t e k. done-is.accepted s t (ap (λ (y : Size). enough (area y) s) (sym same) ∙ e) (ap (λ (y : Size). enough (area y) t) (sym same) ∙ k);
+          accepted = λ s t e k. done-is.accepted s t (ap (λ (y : Size). enough (area y) s) (sym same) ∙ e)
+              (ap (λ (y : Size). enough (area y) t) (sym same) ∙ k);
           leads_back = (accepted_leads_back _ o o (done-is.accepted o o room room)).leads;
         }

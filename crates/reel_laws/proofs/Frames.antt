@@ -49,9 +49,11 @@ module _ (z : Size) where
     next : {s t : State} {ts : List State} {f fs : List ℕ} → Leads f s t → Shows t ts fs → Shows s (t ∷ ts) (f ++ fs)
 
   -- one frame more
-  pub shows_add : {s : State} {ts : List State} {fs : List ℕ} → Shows s ts fs → {f : List ℕ} {t : State} → Leads f (last_of s ts) t → Shows s (ts ++ (t ∷ [])) (fs ++ f)
+  pub shows_add : {s : State} {ts : List State} {fs : List ℕ} → Shows s ts fs → {f : List ℕ} {t : State} → Leads f (last_of s ts) t
+      → Shows s (ts ++ (t ∷ [])) (fs ++ f)
   shows_add {s} none {f} {t} l = subst (Shows s (t ∷ [])) (append-nil f) (next l none)
-  shows_add {s} (next {t = u} {ts} {f = g} {fs = gs} k rest) {f} {t} l = subst (Shows s (u ∷ (ts ++ (t ∷ [])))) (sym (append_assoc g gs f)) (next k (shows_add rest l))
+  shows_add {s} (next {t = u} {ts} {f = g} {fs = gs} k rest) {f} {t} l =
+      subst (Shows s (u ∷ (ts ++ (t ∷ [])))) (sym (append_assoc g gs f)) (next k (shows_add rest l))
 
   -- the bytes of the first frame
   abbrev pub size_of_first : {s t : State} {ts : List State} {fs : List ℕ} → Shows s (t ∷ ts) fs → ℕ
@@ -145,7 +147,8 @@ module _ (z : Size) (ok : size_fits z ≡ true) where
               ∙ r.is ∙ ap (λ (k : ℕ). ran (To r.last k) (last_of t ts)) x.whole_end;
         }
 
-    pub shows_reads : {s : State} {ts : List State} {fs : List ℕ} → Shows z s ts fs → Exact z s → (more : List ℕ) (at : ℕ) → drop at b ≡ fs ++ more → Reads z b at s ts
+    pub shows_reads : {s : State} {ts : List State} {fs : List ℕ} → Shows z s ts fs → Exact z s → (more : List ℕ) (at : ℕ) → drop at b ≡ fs ++ more
+        → Reads z b at s ts
     shows_reads none i more at e = laps.none
     shows_reads {s} (next {t} {ts} {f} {fs} l rest) i more at e =
         let x = first_there f fs more at e in
@@ -180,7 +183,8 @@ module _ (z : Size) (ok : size_fits z ≡ true) where
       pub frame_1 : next_at Loose b HEADER_BYTES ≡ Frame HEADER_BYTES second
       pub frame_2 : next_at Loose b second ≡ Frame second third
 
-    pub two_there : {first : State} {rest : List State} {fs : List ℕ} (x : Shows z (blank (area z)) (first ∷ rest) fs) {ring : List ℕ} → Leads z ring (last_of first rest) first
+    pub two_there : {first : State} {rest : List State} {fs : List ℕ} (x : Shows z (blank (area z)) (first ∷ rest) fs) {ring : List ℕ}
+        → Leads z ring (last_of first rest) first
         → (more : List ℕ) → drop HEADER_BYTES b ≡ (fs ++ ring) ++ more → Two (HEADER_BYTES + size_of_first z x)
     two_there (next {s} {t} {ts} {f} {fs} l others) {ring} r more e = by others r refl
       where

@@ -93,7 +93,10 @@ module _ (r : Reel) (b : List ℕ) (i : ℕ) (o : Other r.size.format i) where
 
   ring_keeps : (f : List ℕ) → HEADER_BYTES ≤ r.end → Same (ring_written r f b)
   ring_keeps f h =
-      by_test (λ t. Same (cond t (builds (reel_of r.size r.frames (r.end + length f) true) (leaves (done []) (lent_bytes (closed_header r.size.format (r.end + length f) r.frames (second_at b) (put b r.end f))))) (keeps r NoRoom 0 (lent_bytes b))))
+      by_test (λ t. Same (cond t
+      (builds (reel_of r.size r.frames (r.end + length f) true)
+      (leaves (done []) (lent_bytes (closed_header r.size.format (r.end + length f) r.frames (second_at b) (put b r.end f)))))
+      (keeps r NoRoom 0 (lent_bytes b))))
       (fits r.end f b)
       (λ e. let room = (fits_in r.end f b e).0 in
       closed_keeps r.size.format i o (put b r.end f) (r.end + length f) r.frames (second_at b) (omega (arith, length_put b r.end f room))

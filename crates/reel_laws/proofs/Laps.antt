@@ -92,7 +92,8 @@ module _ (z : Size) (ok : size_fits z ≡ true) where
     unfolding one_frame
     one_read at s i from end t e = by (next_at Loose b at) refl e
       where
-        by_answer : (x y : ℕ) → next_at Loose b at ≡ Frame x y → (a : Answer) → (frame z (part b x y)).answer ≡ a → ran_by x y (frame z (part b x y)) a s ≡ ran (To from end) t
+        by_answer : (x y : ℕ) → next_at Loose b at ≡ Frame x y → (a : Answer) → (frame z (part b x y)).answer ≡ a
+            → ran_by x y (frame z (part b x y)) a s ≡ ran (To from end) t
             → One at s from end t
         by_answer x y n (Refused r p) d l = not_to l
         by_answer x y n Done d l =
@@ -126,7 +127,8 @@ module _ (z : Size) (ok : size_fits z ≡ true) where
         ap (λ (x : Spans). states_of z b x.met s) (frame_spans_next Loose b count at) ∙ by (next_at Loose b at) o
       where
         ran_by_as : (x y : ℕ) (a : Answer) → ran_by x y (frame z (part b x y)) a s ≡ ran (To from end) t
-            → states_by (ran_by x y (frame z (part b x y)) a s).result (ran_by x y (frame z (part b x y)) a s).after (λ at' s'. states_of z b (frame_spans Loose b count y).met s')
+            → states_by (ran_by x y (frame z (part b x y)) a s).result (ran_by x y (frame z (part b x y)) a s).after
+            (λ at' s'. states_of z b (frame_spans Loose b count y).met s')
             ≡ t ∷ states_of z b (frame_spans Loose b count end).met t
         ran_by_as x y (Refused r p) l = not_to l
         ran_by_as x y Done l =

@@ -48,13 +48,21 @@ opened_by : (speed : ℕ) (f : Format) (w h : ℕ) (b b' : List ℕ) (r : Reel) 
 unfolding open_reel open_fli
 opened_by speed Flc w h b b' r e =
     let s = passed says (size_fits (size_of Flc w h)) e refl refl in
-    let l = passed says (leb HEADER_BYTES (length b)) s.1 refl refl in
-    (s.0, sym (ap (λ (o : ReelOutcome). o.reel) l.1), sym (ap (λ (o : ReelOutcome). o.left.memory.bytes) l.1) ∙ ap (put b 0) (opened_flc w h (milliseconds speed)))
+    let l = passed says (leb HEADER_BYTES (length b)) s.1 refl refl in (
+      s.0,
+      sym (ap (λ (o : ReelOutcome). o.reel) l.1),
+      sym (ap (λ (o : ReelOutcome). o.left.memory.bytes) l.1)
+          ∙ ap (put b 0) (opened_flc w h (milliseconds speed)),
+    )
 opened_by speed Fli w h b b' r e =
     let s = passed says (size_fits (size_of Fli w h)) e refl refl in
     let d = passed says (leb speed 65535) s.1 refl refl in
-    let l = passed says (leb HEADER_BYTES (length b)) d.1 refl refl in
-    (s.0, sym (ap (λ (o : ReelOutcome). o.reel) l.1), sym (ap (λ (o : ReelOutcome). o.left.memory.bytes) l.1) ∙ ap (put b 0) (opened_fli_lem w h (jiffies speed)))
+    let l = passed says (leb HEADER_BYTES (length b)) d.1 refl refl in (
+      s.0,
+      sym (ap (λ (o : ReelOutcome). o.reel) l.1),
+      sym (ap (λ (o : ReelOutcome). o.left.memory.bytes) l.1)
+          ∙ ap (put b 0) (opened_fli_lem w h (jiffies speed)),
+    )
 
 -- the invariant
 
@@ -90,7 +98,8 @@ module _ (z : Size) (speed : ℕ) where
   behind : (b fs rest f : List ℕ) → b ≡ top ++ (fs ++ rest) → put b (HEADER_BYTES + length fs) f ≡ top ++ ((fs ++ f) ++ drop (length f) rest)
   behind b fs rest f e =
       ap (λ (x : List ℕ). put x (HEADER_BYTES + length fs) f) (e ∙ sym (append_assoc top fs rest))
-      ∙ put_behind (top ++ fs) rest f (HEADER_BYTES + length fs) (length-append top fs ∙ ap (λ (x : ℕ). x + length fs) (opened_in_length z.format z.width z.height speed))
+      ∙ put_behind (top ++ fs) rest f (HEADER_BYTES + length fs)
+      (length-append top fs ∙ ap (λ (x : ℕ). x + length fs) (opened_in_length z.format z.width z.height speed))
       ∙ append_assoc top fs (f ++ drop (length f) rest)
       ∙ ap (λ (x : List ℕ). top ++ x) (sym (append_assoc fs f (drop (length f) rest)))
 
@@ -117,7 +126,10 @@ module _ (z : Size) (speed : ℕ) where
       let e₄ = passed says (end_ok end (length b)) e₃.1 refl refl in
       let e₅ = passed says (fits end f b) e₄.1 refl refl in
       let more = length-append asked (u ∷ []) in
-      let sized : ByteState z u = record { exact = front_exact z t i.size n refl (both_true (enough n s) (enough n t) e₃.0).1; bytes = bytes_take n t.picture by } in
+      let sized : ByteState z u = record {
+        exact = front_exact z t i.size n refl (both_true (enough n s) (enough n t) e₃.0).1;
+        bytes = bytes_take n t.picture by;
+      } in
       let before = each_last z i.each_sized (byte_start z i.size) in
       let now-is : r' ≡ reel_of z (k + 1) (end + length f) false = sym (ap (λ (o : ReelOutcome). o.reel) e₅.1) in
       let short = house_short (front_exact z s i.size n refl (both_true (enough n s) (enough n t) e₃.0).0) sized.exact in (

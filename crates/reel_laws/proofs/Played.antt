@@ -89,7 +89,8 @@ module _ (z : Size) (b : List ℕ) where
     pub there : drop at b ≡ bytes ++ drop next b
     pub next_is : next ≡ at + length bytes
 
-  pub played_through : (count last at : ℕ) (s : State) (from to : ℕ) (t : State) → frames Packed z b count last at s ≡ ran (To from to) t → Through count at s to t
+  pub played_through : (count last at : ℕ) (s : State) (from to : ℕ) (t : State) → frames Packed z b count last at s ≡ ran (To from to) t
+      → Through count at s to t
   played_through count last at s from to t e =
       frames_played Packed z b from to t (λ n k u. Through n k u to t)
       (record { states = []; bytes = []; shows = none; many = refl; last = refl; there = refl; next_is = omega arith })

@@ -67,7 +67,8 @@ module _ (z : Size) (speed : ℕ) {b : List ℕ} {r : Reel} {asked : List State}
       (λ k. by_test (λ c. NotThree (add_frame r b s t)) (enough (area r.size) t)
       (λ l. by_test (λ c. NotThree (add_frame r b s t)) (end_ok r.end (length b))
       (λ n. subst NotThree (sym (add_passed r b s t (record { taken = e; sized = size_ok; shown = k; next = l; ended = n })))
-      (fitting (house_frame r.size (front (area r.size) s) (front (area r.size) t)) (house_short (front_exact r.size s size_ok (area r.size) refl k) (front_exact r.size t size_ok (area r.size) refl l))))
+      (fitting (house_frame r.size (front (area r.size) s) (front (area r.size) t))
+      (house_short (front_exact r.size s size_ok (area r.size) refl k) (front_exact r.size t size_ok (area r.size) refl l))))
       (λ n. subst NotThree (sym (add_record r b s t e size_ok k l n)) (other_not_three r Cut (lent_bytes b) (λ q. omega (arith, q)))))
       (λ l. subst NotThree (sym (add_next_short r b s t e size_ok k l)) (other_not_three r ShortSlice (lent_bytes b) (λ q. omega (arith, q)))))
       (λ k. subst NotThree (sym (add_short r b s t e size_ok k)) (other_not_three r ShortSlice (lent_bytes b) (λ q. omega (arith, q)))))
@@ -76,14 +77,16 @@ module _ (z : Size) (speed : ℕ) {b : List ℕ} {r : Reel} {asked : List State}
       fitting : (f : List ℕ) → length f ≤ frame_most → NotThree (added r f b)
       fitting f h =
           let n = near in
-          let k : fits r.end f b ≡ true = ap₂ (λ (x y : Bool). x && y) (le-leb (r.end + length f) (length b) (omega (arith, n.0))) (le-leb (r.end + length f) most_bytes (omega (arith, n.1))) in
+          let k : fits r.end f b ≡ true = ap₂ (λ (x y : Bool). x && y) (le-leb (r.end + length f) (length b) (omega (arith, n.0)))
+          (le-leb (r.end + length f) most_bytes (omega (arith, n.1))) in
           rw k (done_not_three _ _)
 
 module _ (z : Size) (speed : ℕ) {b : List ℕ} {r : Reel} where
   close_fits : (asked : List State) (m : Making z speed b r asked) → reel_most (length asked) ≤ length b → (p q : State) → NotThree (close_reel r b p q)
   close_fits [] m room p q =
       let i = making_holds z speed m in
-      subst NotThree (sym (close_time r b p q (ap (λ (x : Reel). close_ok x.frames x.closed) i.is))) (other_not_three r WrongTime (lent_bytes_pairs b p q) (λ e. omega (arith, e)))
+      subst NotThree (sym (close_time r b p q (ap (λ (x : Reel). close_ok x.frames x.closed) i.is)))
+      (other_not_three r WrongTime (lent_bytes_pairs b p q) (λ e. omega (arith, e)))
   close_fits (first ∷ rest) m room p q = close_some
     where
       n : (r.end + frame_most ≤ length b) × (r.end + frame_most ≤ most_bytes)
@@ -99,11 +102,15 @@ module _ (z : Size) (speed : ℕ) {b : List ℕ} {r : Reel} where
       close_some =
           let i = making_holds z speed m in
           let taken : close_ok r.frames r.closed ≡ true =
-          ap (λ (x : Reel). close_ok x.frames x.closed) i.is ∙ ap₂ (λ (x y : Bool). x && y) (le-leb 1 (suc (length rest)) (omega arith)) (le-leb (suc (length rest)) max_frames i.few) in
+          ap (λ (x : Reel). close_ok x.frames x.closed) i.is
+          ∙ ap₂ (λ (x y : Bool). x && y) (le-leb 1 (suc (length rest)) (omega arith)) (le-leb (suc (length rest)) max_frames i.few) in
           by_test (λ c. NotThree (close_reel r b p q)) (enough (area r.size) p)
           (λ e. by_test (λ c. NotThree (close_reel r b p q)) (enough (area r.size) q)
-          (λ f. said_done (close_reel r b p q) (close_can_be_done z speed m p q (ap (λ (x : Size). enough (area x) p) (sym same) ∙ e) (ap (λ (x : Size). enough (area x) q) (sym same) ∙ f) n.0 n.1))
-          (λ f. subst NotThree (sym (close_second_short r b p q taken sized e f)) (other_not_three r ShortSlice (lent_bytes_pairs b p q) (λ k. omega (arith, k)))))
+          (λ f. said_done (close_reel r b p q)
+          (close_can_be_done z speed m p q (ap (λ (x : Size). enough (area x) p) (sym same) ∙ e)
+          (ap (λ (x : Size). enough (area x) q) (sym same) ∙ f) n.0 n.1))
+          (λ f. subst NotThree (sym (close_second_short r b p q taken sized e f))
+          (other_not_three r ShortSlice (lent_bytes_pairs b p q) (λ k. omega (arith, k)))))
           (λ e. subst NotThree (sym (close_short r b p q taken sized e)) (other_not_three r ShortSlice (lent_bytes_pairs b p q) (λ k. omega (arith, k))))
 
 pub room_enough : (z : Size) (speed : ℕ) {b : List ℕ} {r : Reel} {asked : List State} → Making z speed b r asked → RoomEnough z b r asked

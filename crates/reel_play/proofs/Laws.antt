@@ -51,7 +51,8 @@ module _ (layout : Layout) (z : Size) (b : List ℕ) (at : ℕ) (s : State) wher
     unfolding one_frame
     one_ran_by a r = ap (λ (x : Next). met z b x s) q ∙ ap (λ (x : Answer). ran_by from end (frame z (part b from end)) x s) r
 
-    pub one_refused : (e : Refusal) (place : ℕ) → (frame z (part b from end)).answer ≡ Refused e place → one_frame layout z b at s ≡ ran (Stopped e (from + place)) s
+    pub one_refused : (e : Refusal) (place : ℕ) → (frame z (part b from end)).answer ≡ Refused e place → one_frame layout z b at s
+        ≡ ran (Stopped e (from + place)) s
     one_refused e place r = one_ran_by (Refused e place) r
 
     pub one_played : (frame z (part b from end)).answer ≡ Done → one_frame layout z b at s ≡ ran (To from end) (played (frame z (part b from end)) s)
@@ -148,12 +149,14 @@ module _ (layout : Layout) (z : Size) (b : List ℕ) (from to : ℕ) (t : State)
         by (To last' next) u o rest =
             let n : count ≡ suc count - 1 = omega arith in
             more count at s last' next u o
-            (rest last' next u (ap (λ (k : ℕ). frames layout z b k last' next u) n ∙ sym (frames_more layout z b (suc count) last at s (omega arith) u last' next o) ∙ e))
+            (rest last' next u (ap (λ (k : ℕ). frames layout z b k last' next u) n
+            ∙ sym (frames_more layout z b (suc count) last at s (omega arith) u last' next o) ∙ e))
 
 -- frame 1 and more frames
 
 module _ (layout : Layout) (more : ℕ) (z : Size) (b : List ℕ) where
-  all_step : (x : Progress) → one_frame layout z b HEADER_BYTES (blank (area z)) ≡ x → play_all layout more z b ≡ shown_after x (λ last at s. frames layout z b more last at s)
+  all_step : (x : Progress) → one_frame layout z b HEADER_BYTES (blank (area z)) ≡ x → play_all layout more z b
+      ≡ shown_after x (λ last at s. frames layout z b more last at s)
   unfolding play_all
   all_step x q = ap (λ (y : Progress). shown_after y (λ last at s. frames layout z b more last at s)) q
 
@@ -167,6 +170,7 @@ module _ (layout : Layout) (more : ℕ) (z : Size) (b : List ℕ) where
   all_stopped t e place q = all_step (ran (Stopped e place) t) q
 
   -- x: what the further frames came to
-  pub all_more : (t : State) (last next : ℕ) → one_frame layout z b HEADER_BYTES (blank (area z)) ≡ ran (To last next) t → (x : Progress) → x ≡ frames layout z b more last next t
+  pub all_more : (t : State) (last next : ℕ) → one_frame layout z b HEADER_BYTES (blank (area z)) ≡ ran (To last next) t → (x : Progress) → x
+      ≡ frames layout z b more last next t
       → play_all layout more z b ≡ shown x.result x.after t
   all_more t last next q x r = all_step (ran (To last next) t) q ∙ ap (λ (y : Progress). shown y.result y.after t) (sym r)

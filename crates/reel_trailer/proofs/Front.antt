@@ -49,7 +49,8 @@ module _ (takes : Takes) (b : List ℕ) (z : Size) (frames size : ℕ) (speed : 
       sym (head_is takes c _ _ (size_at b) _ _ _ (delay_at (format_at b) b) true true true true true true
       (word MAGIC_AT (omega arith)) (word32 SIZE_AT (omega arith)) (rw (word MAGIC_AT (omega arith), word WIDTH_AT (omega arith), word HEIGHT_AT (omega arith)))
       (word FRAMES_AT (omega arith)) (word DEPTH_AT (omega arith)) (word FLAGS_AT (omega arith)) (delay (format_at b))
-      (le-leb HEADER_BYTES (length c) (omega (arith, inside.least))) p.magic p.least (le-leb (u32_at b SIZE_AT) (length c) (omega (arith, head_word))) p.sized p.form))
+      (le-leb HEADER_BYTES (length c) (omega (arith, inside.least))) p.magic p.least
+      (le-leb (u32_at b SIZE_AT) (length c) (omega (arith, head_word))) p.sized p.form))
       (Reel z frames size speed) k
     where
       inside : ReelIn b z frames size

@@ -45,7 +45,8 @@ module _ (d : List ℕ) (to : ℕ) where
   unfolding index
   index_none os e = ap (λ (x : List ℕ). put d to (index x)) e ∙ put_nil d to
 
-  pub index_more : (os rest e : List ℕ) (o : ℕ) → os ≡ o ∷ rest → to + 4 ≤ length d → e ≡ put d to (le32 o []) → put d to (index os) ≡ put e (to + 4) (index rest)
+  pub index_more : (os rest e : List ℕ) (o : ℕ) → os ≡ o ∷ rest → to + 4 ≤ length d → e ≡ put d to (le32 o []) → put d to (index os)
+      ≡ put e (to + 4) (index rest)
   unfolding index
   index_more os rest e o q h s =
       ap (λ (x : List ℕ). put d to (index x)) q ∙ put_append d to (le32 o []) (index rest) 4 refl h ∙ ap (λ (x : List ℕ). put x (to + 4) (index rest)) (sym s)
@@ -67,7 +68,8 @@ trailer_length os =
     length-append (index os) (le32 (4 * length os + 8) (le16 (length os) (le16 1 []))) ∙ ap (λ (n : ℕ). n + 8) (index_length os)
 
 -- where all of count frames were met
-pub trailer_many : (b : List ℕ) (count : ℕ) → (top_frames b count HEADER_BYTES).answer ≡ Done → length (trailer_of (top_frames b count HEADER_BYTES).offsets) ≡ 4 * count + 8
+pub trailer_many : (b : List ℕ) (count : ℕ) → (top_frames b count HEADER_BYTES).answer ≡ Done
+    → length (trailer_of (top_frames b count HEADER_BYTES).offsets) ≡ 4 * count + 8
 trailer_many b count m = trailer_length (top_frames b count HEADER_BYTES).offsets ∙ ap (λ (n : ℕ). 4 * n + 8) (found_many b count HEADER_BYTES m)
 
 trailer_counted : (os : List ℕ) (count : ℕ) → length os ≡ count → index os ++ le32 (4 * count + 8) (le16 count (le16 1 [])) ≡ trailer_of os
@@ -91,7 +93,8 @@ padded_stored t = zeros_stored trailer_most t
 
 pub padded_length : (t : List ℕ) → length t ≤ trailer_most → length (padded t) ≡ trailer_most
 unfolding padded
-padded_length t h = length-append t (replicate (trailer_most - length t) 0) ∙ ap (λ (n : ℕ). length t + n) (length-replicate {A = ℕ} (trailer_most - length t) 0) ∙ omega arith
+padded_length t h = length-append t (replicate (trailer_most - length t) 0)
+    ∙ ap (λ (n : ℕ). length t + n) (length-replicate {A = ℕ} (trailer_most - length t) 0) ∙ omega arith
 
 pub padded_front : (t x : List ℕ) (n : ℕ) → x ≡ padded t → length t ≡ n → take n x ≡ t
 unfolding padded

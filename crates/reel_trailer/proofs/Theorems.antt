@@ -65,7 +65,8 @@ data Result (b : List ℕ) (frames size : ℕ) : Type 0 where
   kept : (e : Refusal) (place : ℕ) → write_trailer b ≡ refuse e place (lent_bytes b) → Result b frames size
   wrote : (n : ℕ) → (write_trailer b).said ≡ done (n ∷ []) → Wrote b frames size n → Result b frames size
 
-refused_not_done : {C : Type 0} (b : List ℕ) (n : ℕ) (e : Refusal) (place : ℕ) → write_trailer b ≡ refuse e place (lent_bytes b) → (write_trailer b).said ≡ done (n ∷ []) → C
+refused_not_done : {C : Type 0} (b : List ℕ) (n : ℕ) (e : Refusal) (place : ℕ) → write_trailer b ≡ refuse e place (lent_bytes b)
+    → (write_trailer b).said ≡ done (n ∷ []) → C
 refused_not_done b n e place o s =
     let r : (write_trailer b).said ≡ refused (number e) place = ap (λ (x : Outcome). x.said) o in
     let z : ◌≡◌ {A = ℕ} 0 1 = cc in absurd (omega arith)
@@ -127,7 +128,8 @@ module _ (b : List ℕ) (z : Size) (frames size : ℕ) (speed : Milliseconds) (n
       let same-frames : frames_of f frames size ≡ frames_of b frames size = ap (λ (x : List ℕ). top_frames x (suc frames) HEADER_BYTES) front in
       let rest : take (length f - size) (drop size f) ≡ t = ap (take (length f - size)) back ∙ take_all (length f - size) t (omega arith) in
       checked_compared f size (trailer f frames size)
-      (walk_frames f z frames size speed (head_front FlcOnly b z frames size speed k f front (omega arith)) size (suc frames) refl refl Done (ap (λ (x : Found). x.answer) same-frames ∙ i.met))
+      (walk_frames f z frames size speed (head_front FlcOnly b z frames size speed k f front (omega arith)) size (suc frames) refl refl Done
+      (ap (λ (x : Found). x.answer) same-frames ∙ i.met))
       (omega arith) (length f - size) refl _ true refl (ap₂ same rest (ap (λ (x : Found). trailer_of x.offsets) same-frames) ∙ same_refl t)
 
 pub written_accepted : (b : List ℕ) (n : ℕ) → (write_trailer b).said ≡ done (n ∷ []) → check_trailer (take n (write_trailer b).memory.bytes) ≡ done []
@@ -145,13 +147,15 @@ bytes_word32 : (b : List ℕ) (i : ℕ) → Bytes b → u32_at b i < 4294967296
 unfolding u32_at
 bytes_word32 b i h = omega (arith, bytes_get_d b i h, bytes_get_d b (i + 1) h, bytes_get_d b (i + 2) h, bytes_get_d b (i + 2 + 1) h)
 
-trailer_entry : (os : List ℕ) (i : ℕ) (more : List ℕ) → i < length os → drop (4 * i) (trailer_of os ++ more) ≡ le32 (get_or os i 0) (index (drop (suc i) os) ++ (le32 (4 * length os + 8) (le16 (length os) (le16 1 [])) ++ more))
+trailer_entry : (os : List ℕ) (i : ℕ) (more : List ℕ) → i < length os → drop (4 * i) (trailer_of os ++ more)
+    ≡ le32 (get_or os i 0) (index (drop (suc i) os) ++ (le32 (4 * length os + 8) (le16 (length os) (le16 1 [])) ++ more))
 unfolding trailer_of
 trailer_entry os i more h =
     let tail = le32 (4 * length os + 8) (le16 (length os) (le16 1 [])) in
     ap (drop (4 * i)) (append_assoc (index os) tail more) ∙ index_entry os (tail ++ more) i h
 
-pub entries_are : (b : List ℕ) (z : Size) (frames size : ℕ) (speed : Milliseconds) (n : ℕ) → Bytes b → head_of FlcOnly b ≡ Reel z frames size speed → (write_trailer b).said ≡ done (n ∷ [])
+pub entries_are : (b : List ℕ) (z : Size) (frames size : ℕ) (speed : Milliseconds) (n : ℕ) → Bytes b → head_of FlcOnly b ≡ Reel z frames size speed
+    → (write_trailer b).said ≡ done (n ∷ [])
     → (i : ℕ) → i ≤ frames → u32_at (write_trailer b).memory.bytes (size + 4 * i) ≡ get_or (top_frames (take size b) (suc frames) HEADER_BYTES).offsets i 0
 entries_are b z frames size speed n bytes k s i le =
     let os = (frames_of b frames size).offsets in
@@ -159,22 +163,30 @@ entries_are b z frames size speed n bytes k s i le =
     let l = length-take-le size b (head_in FlcOnly b _ k).most in
     let more = drop (size + length (trailer_of os)) b in
     let there : drop (size + 4 * i) (after b) ≡ drop (4 * i) (trailer_of os ++ more) =
-    ap (drop (size + 4 * i)) j.bytes ∙ sym (drop-drop (4 * i) size (put b size (trailer_of os))) ∙ ap (drop (4 * i)) (drop_at (take size b) (trailer_of os ++ more) size l) in
+    ap (drop (size + 4 * i)) j.bytes ∙ sym (drop-drop (4 * i) size (put b size (trailer_of os)))
+    ∙ ap (drop (4 * i)) (drop_at (take size b) (trailer_of os ++ more) size l) in
     let many = found_many (take size b) (suc frames) HEADER_BYTES j.met in
     let small : get_or os i 0 < 4294967296 =
-    omega (arith, found_in (take size b) (suc frames) HEADER_BYTES i (omega (arith, (head_in FlcOnly b _ k).least)), head_word FlcOnly b z frames size speed k, bytes_word32 b 0 bytes) in
+    omega (
+      arith,
+      found_in (take size b) (suc frames) HEADER_BYTES i (omega (arith, (head_in FlcOnly b _ k).least)),
+      head_word FlcOnly b z frames size speed k,
+      bytes_word32 b 0 bytes,
+    ) in
     there_le32 (after b) _ (size + 4 * i) (get_or os i 0) small (there ∙ trailer_entry os i more (omega arith))
 
 -- the check of the reel
 
 module _ (b : List ℕ) (first second : State) where
   -- c holds the same reel
-  check_front : (c : List ℕ) (z : Size) (frames size : ℕ) (speed : Milliseconds) → head_of FlcOnly b ≡ Reel z frames size speed → take size c ≡ take size b → size ≤ length c → check_reel c first second ≡ check_reel b first second
+  check_front : (c : List ℕ) (z : Size) (frames size : ℕ) (speed : Milliseconds) → head_of FlcOnly b ≡ Reel z frames size speed → take size c
+      ≡ take size b → size ≤ length c → check_reel c first second ≡ check_reel b first second
   unfolding check_reel
   check_front c z frames size speed k e l =
       let both = head_flc b z frames size speed k in
       ap (λ (x : Head). after_head c x first second) (head_front Both b z frames size speed both c e l)
-      ∙ ap (λ (x : List ℕ). cond (enough (area z) first && enough (area z) second) (checked_by (area z) (play_all Loose frames z x) first second) (refuse ShortSlice 0 (lent_pairs first second))) e
+      ∙ ap (λ (x : List ℕ). cond (enough (area z) first && enough (area z) second) (checked_by (area z) (play_all Loose frames z x) first second)
+      (refuse ShortSlice 0 (lent_pairs first second))) e
       ∙ sym (ap (λ (x : Head). after_head b x first second) both)
 
   pub check_same : check_reel (write_trailer b).memory.bytes first second ≡ check_reel b first second
@@ -186,7 +198,8 @@ module _ (b : List ℕ) (first second : State) where
           let f = written_front b z frames size speed k in
           check_front (after b) z frames size speed k f.0 (omega (arith, f.1, (head_in FlcOnly b _ k).most))
 
-  pub check_same_cut : (n : ℕ) → (write_trailer b).said ≡ done (n ∷ []) → check_reel (take n (write_trailer b).memory.bytes) first second ≡ check_reel b first second
+  pub check_same_cut : (n : ℕ) → (write_trailer b).said ≡ done (n ∷ []) → check_reel (take n (write_trailer b).memory.bytes) first second
+      ≡ check_reel b first second
   check_same_cut n s = by_head (head_of FlcOnly b) refl
     where
       by_head : (x : Head) → head_of FlcOnly b ≡ x → check_reel (take n (after b)) first second ≡ check_reel b first second

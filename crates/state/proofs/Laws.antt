@@ -52,6 +52,7 @@ module _ (b d : List ℕ) (n : ℕ) (l : length b ≡ n) where
 -- A call that gives o, which is x where a test is passed and else a refusal y: if it is done, the test was passed and o is x.
 -- says: what is said by that which a call gives, an outcome or more beside one
 module _ {X : Type 0} (says : X → Said) where
-  pub passed : (t : Bool) {x y o : X} {ns : List ℕ} {number place : ℕ} → cond t x y ≡ o → says o ≡ done ns → says y ≡ refused number place → (t ≡ true) × (x ≡ o)
+  pub passed : (t : Bool) {x y o : X} {ns : List ℕ} {number place : ℕ} → cond t x y ≡ o → says o ≡ done ns → says y ≡ refused number place
+      → (t ≡ true) × (x ≡ o)
   passed true e d r = (refl, e)
   passed false e d r = let k = ap says e in let z : ◌≡◌ {A = ℕ} 0 1 = cc in absurd (omega arith)

@@ -80,7 +80,8 @@ pub put_append : (d : List ℕ) (at : ℕ) (v z : List ℕ) (n : ℕ) → length
 put_append d at v z n l h =
     let lt = length-take-le at d (omega arith) in
     let front : take (at + n) (put d at v) ≡ take at d ++ v =
-    ap (take (at + n)) (sym (append_assoc (take at d) v (drop (at + length v) d))) ∙ take_at (take at d ++ v) (drop (at + length v) d) (at + n) (omega (arith, length-append (take at d) v)) in
+    ap (take (at + n)) (sym (append_assoc (take at d) v (drop (at + length v) d)))
+    ∙ take_at (take at d ++ v) (drop (at + length v) d) (at + n) (omega (arith, length-append (take at d) v)) in
     let tail : drop (at + n + length z) (put d at v) ≡ drop (at + length (v ++ z)) d =
     sym (drop-drop (length z) (at + n) (put d at v))
     ∙ ap (λ (x : List ℕ). drop (length z) (drop (at + n) x)) (sym (append_assoc (take at d) v (drop (at + length v) d)))

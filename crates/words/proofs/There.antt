@@ -39,7 +39,8 @@ drop_word32 b at i =
 pub there_word : (b more : List ℕ) (at lo hi x : ℕ) → drop at b ≡ lo ∷ hi ∷ more → lo + 256 * hi ≡ x → u16_at b at ≡ x
 unfolding u16_at
 there_word b more at lo hi x e f =
-    ap₂ (λ (p q : ℕ). p + 256 * q) (ap (λ (i : ℕ). get_or b i 0) (sym (add-zero at)) ∙ there_byte b (lo ∷ hi ∷ more) at 0 lo e refl) (there_byte b (lo ∷ hi ∷ more) at 1 hi e refl) ∙ f
+    ap₂ (λ (p q : ℕ). p + 256 * q) (ap (λ (i : ℕ). get_or b i 0) (sym (add-zero at)) ∙ there_byte b (lo ∷ hi ∷ more) at 0 lo e refl)
+    (there_byte b (lo ∷ hi ∷ more) at 1 hi e refl) ∙ f
 
 pub there_le16 : (b more : List ℕ) (at x : ℕ) → drop at b ≡ le16 x more → u16_at b at ≡ x
 there_le16 b more at x e = there_word b more at (x % 256) (x / 256) x e (omega arith)
@@ -60,7 +61,8 @@ there_le32 b more at x h e =
 -- bytes stored behind a front
 pub put_behind : (a z v : List ℕ) (at : ℕ) → length a ≡ at → put (a ++ z) at v ≡ a ++ (v ++ drop (length v) z)
 put_behind a z v at l =
-    ap₂ (λ (x y : List ℕ). x ++ (v ++ y)) (take_at a z at l) (sym (drop-drop (length v) at (a ++ z)) ∙ ap (λ (x : List ℕ). drop (length v) x) (drop_at a z at l))
+    ap₂ (λ (x y : List ℕ). x ++ (v ++ y)) (take_at a z at l)
+    (sym (drop-drop (length v) at (a ++ z)) ∙ ap (λ (x : List ℕ). drop (length v) x) (drop_at a z at l))
 
 -- in the place of as many
 pub put_at : (a o v z : List ℕ) (at : ℕ) → length a ≡ at → length o ≡ length v → put (a ++ (o ++ z)) at v ≡ a ++ (v ++ z)

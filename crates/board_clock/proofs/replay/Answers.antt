@@ -10,12 +10,18 @@ pub returns-then-frames-lt1 : goal.returns-then-frames-lt1
 returns-then-frames-lt1 c = let a = c.args in replay_none a.speed a.frames a.start a.readings.now a.out.now c.if-frames-lt1.true
 
 pub returns-then-frames-gt-MAX_FRAMES : goal.returns-then-frames-gt-MAX_FRAMES
-returns-then-frames-gt-MAX_FRAMES c = let a = c.args in replay_many a.speed a.frames a.start a.readings.now a.out.now c.if-frames-lt1.false c.if-frames-gt-MAX_FRAMES.true
+returns-then-frames-gt-MAX_FRAMES c = let a = c.args in
+    replay_many a.speed a.frames a.start a.readings.now a.out.now c.if-frames-lt1.false c.if-frames-gt-MAX_FRAMES.true
 
 pub returns-then-out-readings : goal.returns-then-out-readings
-returns-then-out-readings c = let a = c.args in fitted_none (numbers a.frames a.speed (first a.start) a.readings.now) a.out.now (length a.readings.now) (length_numbers a.frames a.speed (first a.start) a.readings.now) c.if-out-readings.true ∙ replay_fitted a.speed a.frames a.start a.readings.now a.out.now c.if-frames-lt1.false c.if-frames-gt-MAX_FRAMES.false
+returns-then-out-readings c = let a = c.args in
+    fitted_none (numbers a.frames a.speed (first a.start) a.readings.now) a.out.now (length a.readings.now)
+    (length_numbers a.frames a.speed (first a.start) a.readings.now) c.if-out-readings.true
+    ∙ replay_fitted a.speed a.frames a.start a.readings.now a.out.now c.if-frames-lt1.false c.if-frames-gt-MAX_FRAMES.false
 
 pub returns : goal.returns
 returns c =
     let a = c.args in
-    fitted_whole (numbers a.frames a.speed (first a.start) a.readings.now) a.out.now (length a.readings.now) (length_numbers a.frames a.speed (first a.start) a.readings.now) _ c.if-out-readings.false c.store_numbers.ensures ∙ replay_fitted a.speed a.frames a.start a.readings.now a.out.now c.if-frames-lt1.false c.if-frames-gt-MAX_FRAMES.false
+    fitted_whole (numbers a.frames a.speed (first a.start) a.readings.now) a.out.now (length a.readings.now)
+    (length_numbers a.frames a.speed (first a.start) a.readings.now) _ c.if-out-readings.false c.store_numbers.ensures
+    ∙ replay_fitted a.speed a.frames a.start a.readings.now a.out.now c.if-frames-lt1.false c.if-frames-gt-MAX_FRAMES.false

@@ -12,4 +12,5 @@ pub returns-in-SetBack : goal.returns-in-SetBack
 returns-in-SetBack c = let a = c.args in step_by a.frames a.speed a.stands a.reading SetBack (sym c.in-SetBack.is ∙ c.due_at.ensures)
 
 pub returns-in-Frame : goal.returns-in-Frame
-returns-in-Frame c = let a = c.args in ap₂ (λ (n l : ℕ). turn Frame (stands n l)) c.next_number.ensures c.wrapping_add_u32.ensures.value ∙ step_by a.frames a.speed a.stands a.reading Frame (sym c.in-Frame.is ∙ c.due_at.ensures)
+returns-in-Frame c = let a = c.args in ap₂ (λ (n l : ℕ). turn Frame (stands n l)) c.next_number.ensures c.wrapping_add_u32.ensures.value
+    ∙ step_by a.frames a.speed a.stands a.reading Frame (sym c.in-Frame.is ∙ c.due_at.ensures)

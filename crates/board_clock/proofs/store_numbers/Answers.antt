@@ -8,7 +8,8 @@ pub overflow_cast-out : goal.overflow_cast-out
 overflow_cast-out c =
     let a = c.args in
     let l = c.loop-i in
-    let small : c.step-turn.result.stands.number ≤ suc a.frames = stored_small a.out.now a.readings.now a.frames a.speed a.start l.out l.number l.last l.i l.invariant c.loop-i-test.true _ c.step-turn.ensures in
+    let small : c.step-turn.result.stands.number ≤ suc a.frames =
+    stored_small a.out.now a.readings.now a.frames a.speed a.start l.out l.number l.last l.i l.invariant c.loop-i-test.true _ c.step-turn.ensures in
     omega (arith, small, l.invariant.most)
 
 pub loop-i-preserved : goal.loop-i-preserved

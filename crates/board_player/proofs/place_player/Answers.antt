@@ -22,9 +22,11 @@ returns-in-Fault c = c.no_player.ensures ∙ placed_fault c.args.bytes.now c.arg
 pub returns-in-Fault-step_at : goal.returns-in-Fault-step_at
 returns-in-Fault-step_at c =
     let r = c.in-Reel in
-    c.no_player-in-Fault-step_at.ensures ∙ placed_at_lem c.args.bytes.now c.args.reading r.picture r.frames r.size r.speed (sym r.ensures) (r.size - 0) (omega arith) _ (sym c.in-Fault-step_at.ensures)
+    c.no_player-in-Fault-step_at.ensures ∙ placed_at_lem c.args.bytes.now c.args.reading r.picture r.frames r.size r.speed (sym r.ensures)
+    (r.size - 0) (omega arith) _ (sym c.in-Fault-step_at.ensures)
 
 pub returns-in-Frame : goal.returns-in-Frame
 returns-in-Frame c =
     let r = c.in-Reel in
-    c.player_at.ensures ∙ placed_at_lem c.args.bytes.now c.args.reading r.picture r.frames r.size r.speed (sym r.ensures) (r.size - 0) (omega arith) _ (sym c.in-Frame.ensures)
+    c.player_at.ensures ∙ placed_at_lem c.args.bytes.now c.args.reading r.picture r.frames r.size r.speed (sym r.ensures) (r.size - 0) (omega arith)
+    _ (sym c.in-Frame.ensures)

@@ -17,7 +17,8 @@ returns-in-Refused c =
     let p = state l.first_picture l.first_palette in
     let q = state l.second_picture l.second_palette in
     ap (λ (x : Player). plays x (leaves (told (Refused c.in-Refused.e c.in-Refused.place)) (lent_pairs p q))) c.no_player.ensures
-    ∙ start_refused a.bytes.now a.reading (state a.first_picture.now a.first_palette.now) (state a.second_picture.now a.second_palette.now) p q _ _ (ap (λ (x : Answer). leaves (told x) (lent_pairs p q)) (sym c.in-Refused.is) ∙ c.check_reel.ensures)
+    ∙ start_refused a.bytes.now a.reading (state a.first_picture.now a.first_palette.now) (state a.second_picture.now a.second_palette.now) p q _ _
+    (ap (λ (x : Answer). leaves (told x) (lent_pairs p q)) (sym c.in-Refused.is) ∙ c.check_reel.ensures)
 
 pub returns-in-Done : goal.returns-in-Done
 returns-in-Done c =
@@ -26,4 +27,5 @@ returns-in-Done c =
     let p = state l.first_picture l.first_palette in
     let q = state l.second_picture l.second_palette in
     ap (λ (x : Player). plays x (leaves (told Done) (lent_pairs p q))) c.place_player.ensures
-    ∙ start_done a.bytes.now a.reading (state a.first_picture.now a.first_palette.now) (state a.second_picture.now a.second_palette.now) p q (ap (λ (x : Answer). leaves (told x) (lent_pairs p q)) (sym c.in-Done.is) ∙ c.check_reel.ensures)
+    ∙ start_done a.bytes.now a.reading (state a.first_picture.now a.first_palette.now) (state a.second_picture.now a.second_palette.now) p q
+    (ap (λ (x : Answer). leaves (told x) (lent_pairs p q)) (sym c.in-Done.is) ∙ c.check_reel.ensures)

@@ -28,12 +28,15 @@ returns-in-Stopped c =
     let a = c.args in
     let l = c.draw_next.new in
     let s = state l.picture l.palette in
-    tick_refused a.player a.bytes.now a.reading (state a.picture.now a.palette.now) c.step-turn.result c.step-turn.ensures c.in-Frame.is _ _ s (ap (λ (r : Ran). ran r s) (sym c.in-Stopped.is) ∙ c.draw_next.ensures)
+    tick_refused a.player a.bytes.now a.reading (state a.picture.now a.palette.now) c.step-turn.result c.step-turn.ensures c.in-Frame.is _ _ s
+    (ap (λ (r : Ran). ran r s) (sym c.in-Stopped.is) ∙ c.draw_next.ensures)
 
 pub returns-in-To : goal.returns-in-To
 returns-in-To c =
     let a = c.args in
     let l = c.draw_next.new in
     let s = state l.picture l.palette in
-    ap (λ (p : Player). plays p (leaves (told_tick ticked.Drawn) (lent_pair s))) (c.standing_at-in-To.ensures ∙ ap (standing a.player c.step-turn.result.stands) c.place_after-place.ensures)
-    ∙ tick_drawn a.player a.bytes.now a.reading (state a.picture.now a.palette.now) c.step-turn.result c.step-turn.ensures c.in-Frame.is _ _ s (ap (λ (r : Ran). ran r s) (sym c.in-To.is) ∙ c.draw_next.ensures)
+    ap (λ (p : Player). plays p (leaves (told_tick ticked.Drawn) (lent_pair s)))
+    (c.standing_at-in-To.ensures ∙ ap (standing a.player c.step-turn.result.stands) c.place_after-place.ensures)
+    ∙ tick_drawn a.player a.bytes.now a.reading (state a.picture.now a.palette.now) c.step-turn.result c.step-turn.ensures c.in-Frame.is _ _ s
+    (ap (λ (r : Ran). ran r s) (sym c.in-To.is) ∙ c.draw_next.ensures)

@@ -22,7 +22,8 @@ pub loop-x-smaller : goal.loop-x-smaller
 loop-x-smaller c = omega arith
 
 pub loop-x-preserved : goal.loop-x-preserved
-loop-x-preserved c = let l = c.loop-x in (omega arith, l.invariant.1, l.invariant.2, l.invariant.3, noted_more _ _ _ _ _ l.invariant.4 (omega arith) c.eight_differ.ensures)
+loop-x-preserved c = let l = c.loop-x in
+    (omega arith, l.invariant.1, l.invariant.2, l.invariant.3, noted_more _ _ _ _ _ l.invariant.4 (omega arith) c.eight_differ.ensures)
 
 pub shape_of-marks : goal.shape_of-marks
 shape_of-marks c = c.loop-x.invariant.4.long

@@ -29,7 +29,14 @@ pub loop-x-smaller : goal.loop-x-smaller
 loop-x-smaller c = omega arith
 
 pub loop-x-preserved : goal.loop-x-preserved
-loop-x-preserved c = let l = c.loop-x in (omega arith, l.invariant.1, l.invariant.2, l.invariant.3, noted_more _ _ _ _ _ l.invariant.4 (omega arith) (tells_or (get_or l.marks l.x 0) c.differs.result ∙ ap₂ (λ (s t : Bool). s || t) (ap tells (l.invariant.4.kept l.x (omega arith))) c.differs.ensures))
+loop-x-preserved c = let l = c.loop-x in (
+  omega arith,
+  l.invariant.1,
+  l.invariant.2,
+  l.invariant.3,
+  noted_more _ _ _ _ _ l.invariant.4 (omega arith)
+      (tells_or (get_or l.marks l.x 0) c.differs.result ∙ ap₂ (λ (s t : Bool). s || t) (ap tells (l.invariant.4.kept l.x (omega arith))) c.differs.ensures),
+)
 
 pub shape_of-marks : goal.shape_of-marks
 shape_of-marks c = c.loop-x.invariant.4.long

@@ -16,7 +16,8 @@ unfolding any
 clear marks previous next part at width h e = cleared marks part width (width - 0) (omega arith) h e _ (λ x. refl)
 
 pub loop-y-init : goal.loop-y-init
-loop-y-init c = let a = c.args in rows_first _ _ _ _ _ _ _ c.requires.0 (clear a.marks.now a.previous.now a.next.now _ a.at a.width c.requires.0 c.fill.ensures) c.requires.1 c.requires.2
+loop-y-init c = let a = c.args in rows_first _ _ _ _ _ _ _ c.requires.0
+    (clear a.marks.now a.previous.now a.next.now _ a.at a.width c.requires.0 c.fill.ensures) c.requires.1 c.requires.2
 
 pub note_row-requires : goal.note_row-requires
 note_row-requires c =
@@ -37,7 +38,9 @@ pub loop-y-preserved : goal.loop-y-preserved
 loop-y-preserved c = rows_again _ _ _ _ _ _ _ _ _ c.loop-y.invariant (omega arith) _ c.note_row.ensures _ refl
 
 pub shape_of-marks : goal.shape_of-marks
-shape_of-marks c = let a = c.args in c.loop-y.invariant.noted_so_far.long ∙ (clear a.marks.now a.previous.now a.next.now _ a.at a.width c.requires.0 c.fill.ensures).long
+shape_of-marks c = let a = c.args in c.loop-y.invariant.noted_so_far.long
+    ∙ (clear a.marks.now a.previous.now a.next.now _ a.at a.width c.requires.0 c.fill.ensures).long
 
 pub returns : goal.returns
-returns c = let a = c.args in rows_done _ _ _ _ _ _ _ _ _ c.loop-y.invariant (omega arith) _ _ (clear a.marks.now a.previous.now a.next.now _ a.at a.width c.requires.0 c.fill.ensures)
+returns c = let a = c.args in rows_done _ _ _ _ _ _ _ _ _ c.loop-y.invariant (omega arith) _ _
+    (clear a.marks.now a.previous.now a.next.now _ a.at a.width c.requires.0 c.fill.ensures)

@@ -15,10 +15,13 @@ pub overflow_mul-area : goal.overflow_mul-area
 overflow_mul-area c = omega (arith, (size_ok_in c.args.width c.args.height (sym c.size_ok.ensures ∙ c.if-not-size_ok.false)).area)
 
 pub returns-then-previous-area : goal.returns-then-previous-area
-returns-then-previous-area c = let a = c.args in map_previous a.width a.height a.previous.now a.next.now a.words.now (sym c.size_ok.ensures ∙ c.if-not-size_ok.false) c.if-previous-area.true
+returns-then-previous-area c = let a = c.args in
+    map_previous a.width a.height a.previous.now a.next.now a.words.now (sym c.size_ok.ensures ∙ c.if-not-size_ok.false) c.if-previous-area.true
 
 pub returns-then-next-area : goal.returns-then-next-area
-returns-then-next-area c = let a = c.args in map_next a.width a.height a.previous.now a.next.now a.words.now (sym c.size_ok.ensures ∙ c.if-not-size_ok.false) c.if-previous-area.false c.if-next-area.true
+returns-then-next-area c = let a = c.args in
+    map_next a.width a.height a.previous.now a.next.now a.words.now (sym c.size_ok.ensures ∙ c.if-not-size_ok.false) c.if-previous-area.false
+    c.if-next-area.true
 
 pub overflow_add-count : goal.overflow_add-count
 overflow_add-count c = omega (arith, (size_ok_in c.args.width c.args.height (sym c.size_ok.ensures ∙ c.if-not-size_ok.false)).high)
@@ -26,14 +29,23 @@ overflow_add-count c = omega (arith, (size_ok_in c.args.width c.args.height (sym
 pub returns-then-words-count : goal.returns-then-words-count
 returns-then-words-count c =
     let a = c.args in
-    fitted_none (tile_words a.width a.height a.previous.now a.next.now) a.words.now (tiles a.height) (length_words a.width a.height a.previous.now a.next.now 0 (tiles a.height)) c.if-words-count.true
-    ∙ map_fitted a.width a.height a.previous.now a.next.now a.words.now (sym c.size_ok.ensures ∙ c.if-not-size_ok.false) c.if-previous-area.false c.if-next-area.false
+    fitted_none (tile_words a.width a.height a.previous.now a.next.now) a.words.now (tiles a.height)
+    (length_words a.width a.height a.previous.now a.next.now 0 (tiles a.height)) c.if-words-count.true
+    ∙ map_fitted a.width a.height a.previous.now a.next.now a.words.now (sym c.size_ok.ensures ∙ c.if-not-size_ok.false) c.if-previous-area.false
+    c.if-next-area.false
 
 pub store_words-requires : goal.store_words-requires
-store_words-requires c = (size_ok_in c.args.width c.args.height (sym c.size_ok.ensures ∙ c.if-not-size_ok.false), c.if-previous-area.false, c.if-next-area.false, c.if-words-count.false)
+store_words-requires c = (
+  size_ok_in c.args.width c.args.height (sym c.size_ok.ensures ∙ c.if-not-size_ok.false),
+  c.if-previous-area.false,
+  c.if-next-area.false,
+  c.if-words-count.false,
+)
 
 pub returns : goal.returns
 returns c =
     let a = c.args in
-    fitted_whole (tile_words a.width a.height a.previous.now a.next.now) a.words.now (tiles a.height) (length_words a.width a.height a.previous.now a.next.now 0 (tiles a.height)) _ c.if-words-count.false c.store_words.ensures
-    ∙ map_fitted a.width a.height a.previous.now a.next.now a.words.now (sym c.size_ok.ensures ∙ c.if-not-size_ok.false) c.if-previous-area.false c.if-next-area.false
+    fitted_whole (tile_words a.width a.height a.previous.now a.next.now) a.words.now (tiles a.height)
+    (length_words a.width a.height a.previous.now a.next.now 0 (tiles a.height)) _ c.if-words-count.false c.store_words.ensures
+    ∙ map_fitted a.width a.height a.previous.now a.next.now a.words.now (sym c.size_ok.ensures ∙ c.if-not-size_ok.false) c.if-previous-area.false
+    c.if-next-area.false

@@ -24,13 +24,15 @@ pub loop-i-smaller-then-tile_noted : goal.loop-i-smaller-then-tile_noted
 loop-i-smaller-then-tile_noted c = omega arith
 
 pub loop-i-preserved-then-tile_noted : goal.loop-i-preserved-then-tile_noted
-loop-i-preserved-then-tile_noted c = (c.loop-i.invariant.0, spelling_again _ _ _ _ c.loop-i.invariant.1 _ (omega arith) true (sym c.tile_noted.ensures ∙ c.if-tile_noted.true) _ refl)
+loop-i-preserved-then-tile_noted c =
+    (c.loop-i.invariant.0, spelling_again _ _ _ _ c.loop-i.invariant.1 _ (omega arith) true (sym c.tile_noted.ensures ∙ c.if-tile_noted.true) _ refl)
 
 pub loop-i-smaller : goal.loop-i-smaller
 loop-i-smaller c = omega arith
 
 pub loop-i-preserved : goal.loop-i-preserved
-loop-i-preserved c = (c.loop-i.invariant.0, spelling_again _ _ _ _ c.loop-i.invariant.1 _ (omega arith) false (sym c.tile_noted.ensures ∙ c.if-tile_noted.false) _ (omega arith))
+loop-i-preserved c =
+    (c.loop-i.invariant.0, spelling_again _ _ _ _ c.loop-i.invariant.1 _ (omega arith) false (sym c.tile_noted.ensures ∙ c.if-tile_noted.false) _ (omega arith))
 
 pub returns : goal.returns
 returns c = spelling_done _ _ _ _ c.loop-i.invariant.1 (omega arith)

@@ -8,7 +8,8 @@ use Rattle.capi.proofs.flic_add_frame.Goals as goal
 
 pub returns : goal.returns
 returns c =
-    let here = c in
-    let made = here in
-    let a = made.args in
-    held_reel c.built_for_c.ensures.0 (here.add_frame-a.ensures ∙ ap (λ (r : Reel). add_frame r a.bytes.now (state a.shown_picture.now a.shown_palette.now) (state a.next_picture.now a.next_palette.now)) made.reel_from_c.ensures) c.built_for_c.ensures.1
+    let a = c.args in
+    held_reel c.built_for_c.ensures.0
+    (c.add_frame-a.ensures ∙ ap
+    (λ (r : Reel). add_frame r a.bytes.now (state a.shown_picture.now a.shown_palette.now) (state a.next_picture.now a.next_palette.now))
+    c.reel_from_c.ensures) c.built_for_c.ensures.1

@@ -9,4 +9,5 @@ use Rattle.capi.proofs.flic_read_frame.Goals as goal
 pub returns : goal.returns
 returns c =
     let a = c.args in
-    held c.answer_for_c.ensures (c.read_frame-a.ensures ∙ ap (λ (z : Size). read_frame a.bytes.now z (state a.picture.now a.palette.now)) c.size_from_c-size.ensures)
+    held c.answer_for_c.ensures
+    (c.read_frame-a.ensures ∙ ap (λ (z : Size). read_frame a.bytes.now z (state a.picture.now a.palette.now)) c.size_from_c-size.ensures)

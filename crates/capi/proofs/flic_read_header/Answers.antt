@@ -11,5 +11,14 @@ returns-in-Fault c =
 
 pub returns-in-Reel : goal.returns-in-Reel
 returns-in-Reel c =
-    ap (λ (n : ℕ). record { number = 0; place = 0; width = c.in-Reel.picture.width; height = c.in-Reel.picture.height; frames = c.in-Reel.frames; size = c.in-Reel.size; speed = c.in-Reel.speed.0; format = n }) c.format_number.ensures
+    ap (λ (n : ℕ). record {
+      number = 0;
+      place = 0;
+      width = c.in-Reel.picture.width;
+      height = c.in-Reel.picture.height;
+      frames = c.in-Reel.frames;
+      size = c.in-Reel.size;
+      speed = c.in-Reel.speed.0;
+      format = n;
+    }) c.format_number.ensures
     ∙ ap header_for (sym (sym c.head_of.ensures ∙ c.in-Reel.is))

@@ -7,7 +7,8 @@ use Rattle.capi.specs.Capi.{number_of, place_of, event_of, Told}
 use Rattle.capi.proofs.tick_for_c.Goals as goal
 
 -- the numbers of an answer that is known to be a
-as-told : {number place event : ℕ} {answer a : Ticked} → answer ≡ a → number ≡ number_of (told_tick a) → place ≡ place_of (told_tick a) → event ≡ event_of (told_tick a)
+as-told : {number place event : ℕ} {answer a : Ticked} → answer ≡ a → number ≡ number_of (told_tick a) → place ≡ place_of (told_tick a) → event
+    ≡ event_of (told_tick a)
     → Told number place (told_tick answer) × (event ≡ event_of (told_tick answer))
 as-told e n p v = (
   record { number_is = n ∙ sym (ap (λ (x : Ticked). number_of (told_tick x)) e); place_is = p ∙ sym (ap (λ (x : Ticked). place_of (told_tick x)) e) },

@@ -10,5 +10,6 @@ pub returns : goal.returns
 returns c =
     let a = c.args in (
       search rules,
-      put_then a.out.now c.put_two.new.out c.put_bytes.new.out (a.x ∷ a.y ∷ []) a.v.now a.at 2 refl (omega (arith, c.requires)) c.put_two.ensures c.put_bytes.ensures,
+      put_then a.out.now c.put_two.new.out c.put_bytes.new.out (a.x ∷ a.y ∷ []) a.v.now a.at 2 refl (omega (arith, c.requires)) c.put_two.ensures
+          c.put_bytes.ensures,
     )

@@ -21,7 +21,12 @@ returns-then-s-eq0 c =
     let a = c.args in
     let s = c.next_stretch-s in
     let l = c.loop-s in (
-      omega (arith, measured_all 3 256 a.previous.now a.next.now colour_packet l.i s.result.gap s.result.changed l.size s.ensures l.invariant.2 c.if-s-eq0.true, body_length a.previous.now a.next.now),
+      omega (
+        arith,
+        measured_all 3 256 a.previous.now a.next.now colour_packet l.i s.result.gap s.result.changed l.size s.ensures l.invariant.2
+            c.if-s-eq0.true,
+        body_length a.previous.now a.next.now,
+      ),
       omega arith,
     )
 
@@ -36,5 +41,6 @@ loop-s-preserved c =
     let some : 1 ≤ m = omega (arith, c.if-s-eq0.false) in (
       omega arith,
       omega (arith, c.if-s-eq0.false),
-      measured_on 3 256 a.previous.now a.next.now colour_packet l.i g m l.size e l.invariant.2 (2 + m * 3) some (sym (packet_length a.previous.now a.next.now l.i g m c.requires.1 e.inside)),
+      measured_on 3 256 a.previous.now a.next.now colour_packet l.i g m l.size e l.invariant.2 (2 + m * 3) some
+          (sym (packet_length a.previous.now a.next.now l.i g m c.requires.1 e.inside)),
     )

@@ -13,8 +13,12 @@ use Rattle.house_colour.proofs.put_packets.Goals as goal
 pub loop-s-init : goal.loop-s-init
 unfolding changed_entries
 loop-s-init c =
-    let a = c.args in
-    (omega arith, omega arith, measured_first 3 256 a.previous.now a.next.now each, written_first 3 256 a.previous.now a.next.now colour_packet a.out.now a.at c.requires.2)
+    let a = c.args in (
+      omega arith,
+      omega arith,
+      measured_first 3 256 a.previous.now a.next.now each,
+      written_first 3 256 a.previous.now a.next.now colour_packet a.out.now a.at c.requires.2,
+    )
 
 pub next_stretch-s-requires : goal.next_stretch-s-requires
 next_stretch-s-requires c = omega (arith, c.requires)
@@ -28,9 +32,11 @@ returns-then-s-eq0 c =
     let a = c.args in
     let l = c.loop-s in
     let s = c.next_stretch-s in (
-      measured_all 3 256 a.previous.now a.next.now each l.i s.result.gap s.result.changed l.count s.ensures l.invariant.2 c.if-s-eq0.true ∙ ap length (flat_map_each (changed_entries a.previous.now a.next.now)),
+      measured_all 3 256 a.previous.now a.next.now each l.i s.result.gap s.result.changed l.count s.ensures l.invariant.2 c.if-s-eq0.true
+          ∙ ap length (flat_map_each (changed_entries a.previous.now a.next.now)),
       omega (arith, l.invariant.0, l.invariant.1),
-      (written_all 3 256 a.previous.now a.next.now colour_packet a.out.now a.at l.out l.here l.i s.result.gap s.result.changed s.ensures l.invariant.3 c.if-s-eq0.true).1,
+      (written_all 3 256 a.previous.now a.next.now colour_packet a.out.now a.at l.out l.here l.i s.result.gap s.result.changed s.ensures
+          l.invariant.3 c.if-s-eq0.true).1,
     )
 
 pub put_packet-here-requires : goal.put_packet-here-requires
@@ -40,7 +46,8 @@ put_packet-here-requires c =
     let s = c.next_stretch-s in
     let g = s.result.gap in
     let m = s.result.changed in
-    let room = written_room 3 256 a.previous.now a.next.now colour_packet a.out.now a.at l.out l.here l.i g m s.ensures l.invariant.3 _ (packet_lent a.previous.now a.next.now l.i g m) (omega (arith, c.if-s-eq0.false)) in
+    let room = written_room 3 256 a.previous.now a.next.now colour_packet a.out.now a.at l.out l.here l.i g m s.ensures l.invariant.3 _
+    (packet_lent a.previous.now a.next.now l.i g m) (omega (arith, c.if-s-eq0.false)) in
     (omega (arith, room), omega (arith, s.ensures.inside, c.if-s-eq0.false), omega arith)
 
 pub loop-s-smaller : goal.loop-s-smaller
@@ -58,6 +65,7 @@ loop-s-preserved c =
       s.ensures.inside,
       omega (arith, l.invariant.1),
       measured_on 3 256 a.previous.now a.next.now each l.i g m l.count s.ensures l.invariant.2 1 some refl,
-      written_on 3 256 a.previous.now a.next.now colour_packet a.out.now a.at l.out l.here l.i g m s.ensures l.invariant.3 _ (packet_lent a.previous.now a.next.now l.i g m) some
+      written_on 3 256 a.previous.now a.next.now colour_packet a.out.now a.at l.out l.here l.i g m s.ensures l.invariant.3 _
+          (packet_lent a.previous.now a.next.now l.i g m) some
           c.put_packet-here.new.out c.put_packet-here.result (omega (arith, e.0)) e.1,
     )

@@ -11,7 +11,8 @@ abbrev pub each : Stretch → List Stretch
 each s = s ∷ []
 
 abbrev pub invariant-loop-s : goal.invariant-loop-s
-invariant-loop-s l = (l.i ≤ 256) × (l.count ≤ l.i) × Measured 3 256 l.previous l.next each l.i l.count × Written 3 256 l.previous l.next colour_packet l.initial.out l.at l.out l.here l.i
+invariant-loop-s l = (l.i ≤ 256) × (l.count ≤ l.i) × Measured 3 256 l.previous l.next each l.i l.count
+    × Written 3 256 l.previous l.next colour_packet l.initial.out l.at l.out l.here l.i
 
 abbrev pub decreases-loop-s : goal.decreases-loop-s
 decreases-loop-s l = 256 - l.i

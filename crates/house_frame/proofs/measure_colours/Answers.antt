@@ -7,4 +7,5 @@ pub returns-then-same_bytes : goal.returns-then-same_bytes
 returns-then-same_bytes c = colour_same c.args.previous.now c.args.next.now (sym c.same_bytes.ensures ∙ c.if-same_bytes.true)
 
 pub returns : goal.returns
-returns c = colour_other c.args.previous.now c.args.next.now (sym c.same_bytes.ensures ∙ c.if-same_bytes.false) c.colour_size-body.result c.colour_size-body.ensures.0
+returns c = colour_other c.args.previous.now c.args.next.now (sym c.same_bytes.ensures ∙ c.if-same_bytes.false) c.colour_size-body.result
+    c.colour_size-body.ensures.0

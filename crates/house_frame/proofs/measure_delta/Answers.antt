@@ -9,4 +9,5 @@ returns-then-same_bytes c = let a = c.args in delta_none a.size a.previous.now a
 pub returns : goal.returns
 returns c =
     let a = c.args in
-    delta_made a.size a.previous.now a.next.now (sym c.same_bytes.ensures ∙ c.if-same_bytes.false) c.delta_size-delta.result c.delta_kind.result c.more_edges-edges.result c.delta_size-delta.ensures.0 c.delta_kind.ensures c.more_edges-edges.ensures
+    delta_made a.size a.previous.now a.next.now (sym c.same_bytes.ensures ∙ c.if-same_bytes.false) c.delta_size-delta.result c.delta_kind.result
+    c.more_edges-edges.result c.delta_size-delta.ensures.0 c.delta_kind.ensures c.more_edges-edges.ensures

@@ -20,6 +20,7 @@ returns c =
     let e = c.put_header.new.out in
     let h = le32 a.size (le16 FRAME_TYPE []) in
     let l : length d ≡ length a.out.now = omega arith in
-    let first : d ≡ put a.out.now 0 (h ++ le16 a.count []) = put_then a.out.now e d h (le16 a.count []) 0 6 refl (omega arith) c.put_header.ensures c.put_u16.ensures in
+    let first : d ≡ put a.out.now 0 (h ++ le16 a.count []) =
+    put_then a.out.now e d h (le16 a.count []) 0 6 refl (omega arith) c.put_header.ensures c.put_u16.ensures in
     put_then a.out.now d _ (h ++ le16 a.count []) zeros 0 8 refl (omega arith) first
     (span_back d c.fill.new.part zeros 8 16 8 (c.fill.ensures ∙ ap (λ (n : ℕ). replicate n 0) (span_length d 8 16 8 (omega arith) refl)) refl refl)

@@ -1,4 +1,5 @@
--- `write_house` meets its contract: where the rows have more edges than the delta has bytes it is shorter than the full chunk (`full_edges`), and no row is searched; where not, they are.
+-- `write_house` meets its contract: where the rows have more edges than the delta has bytes it is shorter than the full chunk (`full_edges`), and no
+-- row is searched; where not, they are.
 use Rattle.house_frame.proofs.Laws.{delta_taken, delta_sought}
 use Rattle.house_frame.proofs.write_house.Goals as goal
 

@@ -27,7 +27,8 @@ overflow_add-colours c = let p = plans c.requires.0 c.requires.1 c.requires.2 c.
 
 pub put_frame_header-requires : goal.put_frame_header-requires
 put_frame_header-requires c =
-    let p = plans c.requires.0 c.requires.1 c.requires.2 c.requires.3 in (omega (arith, c.if-out-whole.false), omega (arith, (colours_in p).one, (picture_in p).one))
+    let p = plans c.requires.0 c.requires.1 c.requires.2 c.requires.3 in
+    (omega (arith, c.if-out-whole.false), omega (arith, (colours_in p).one, (picture_in p).one))
 
 pub overflow_add-at : goal.overflow_add-at
 overflow_add-at c = omega (arith, (colours_in (plans c.requires.0 c.requires.1 c.requires.2 c.requires.3)).short)
@@ -43,4 +44,5 @@ returns c =
     let header = c.put_frame_header in
     let colours = c.write_colours in
     let picture = c.write_picture in
-    house_stored (plans c.requires.0 c.requires.1 c.requires.2 c.requires.3) c.args.out.now header.new.out colours.new.out picture.new.out c.if-out-whole.false header.ensures colours.ensures picture.ensures
+    house_stored (plans c.requires.0 c.requires.1 c.requires.2 c.requires.3) c.args.out.now header.new.out colours.new.out picture.new.out
+    c.if-out-whole.false header.ensures colours.ensures picture.ensures

@@ -1,4 +1,5 @@
--- `write_searched` meets its contract: the shorter of the delta and the full chunk is the picture's plan, and the rows of a BRUN chunk were planned by the measure.
+-- `write_searched` meets its contract: the shorter of the delta and the full chunk is the picture's plan, and the rows of a BRUN chunk were planned
+-- by the measure.
 use mathlib.Core.Path.{◌≡◌, ap, ◌∙◌}
 use mathlib.Core.List.{List}
 use Prim.Native.Nat.{ℕ, ◌-◌, ◌≤◌}
@@ -28,7 +29,13 @@ measure_picture-picture-requires c =
 pub slice_bounds-write_planned-end : goal.slice_bounds-write_planned-end
 slice_bounds-write_planned-end c =
     let long = rows c.picture_room-rows.result (length c.args.next_picture.now) c.picture_room-rows.ensures (omega (arith, sized_small c.requires.1.picture)) in
-    omega (arith, length-append c.measure_picture-picture.new.rows (drop (length c.args.next_picture.now - 0) c.picture_room-rows.result), c.measure_picture-picture.auto.rows, long, room_long c.picture_room-rows.result c.picture_room-rows.ensures)
+    omega (
+      arith,
+      length-append c.measure_picture-picture.new.rows (drop (length c.args.next_picture.now - 0) c.picture_room-rows.result),
+      c.measure_picture-picture.auto.rows,
+      long,
+      room_long c.picture_room-rows.result c.picture_room-rows.ensures,
+    )
 
 pub write_planned-requires : goal.write_planned-requires
 write_planned-requires c =
@@ -41,7 +48,8 @@ write_planned-requires c =
       p.2,
       m.ensures.0 ∙ shorter_picture a.size a.previous_picture.now a.next_picture.now p.3 a.delta p.4,
       λ k.
-          take_at m.new.rows (drop (length a.next_picture.now - 0) c.picture_room-rows.result) (length a.next_picture.now - 0) (m.auto.rows ∙ long ∙ omega arith)
+          take_at m.new.rows (drop (length a.next_picture.now - 0) c.picture_room-rows.result) (length a.next_picture.now - 0)
+          (m.auto.rows ∙ long ∙ omega arith)
           ∙ m.ensures.1
           ∙ brun_planned a.size.width a.size.height a.next_picture.now _ (shorter_brun a.size a.next_picture.now a.delta m.ensures.0 k),
     )

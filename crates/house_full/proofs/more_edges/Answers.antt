@@ -23,16 +23,30 @@ pub loop-left-init : goal.loop-left-init
 loop-left-init c = (omega (arith, c.requires.pixels), omega arith, omega arith)
 
 pub overflow_add-end : goal.overflow_add-end
-overflow_add-end c = omega (arith, inside c.args.width c.loop-left.left c.loop-left.from c.args.picture.now c.loop-left-test.true c.loop-left.invariant.0, sized_small c.requires)
+overflow_add-end c = omega
+    (arith, inside c.args.width c.loop-left.left c.loop-left.from c.args.picture.now c.loop-left-test.true c.loop-left.invariant.0, sized_small c.requires)
 
 pub slice_bounds-row_edges-end : goal.slice_bounds-row_edges-end
 slice_bounds-row_edges-end c = inside c.args.width c.loop-left.left c.loop-left.from c.args.picture.now c.loop-left-test.true c.loop-left.invariant.0
 
 pub row_edges-requires : goal.row_edges-requires
-row_edges-requires c = rw (row_length c.args.width c.loop-left.from c.args.picture.now (inside c.args.width c.loop-left.left c.loop-left.from c.args.picture.now c.loop-left-test.true c.loop-left.invariant.0)) (c.requires.size.some_wide, c.requires.size.wide)
+row_edges-requires c =
+    let a = c.args in
+    rw (row_length a.width c.loop-left.from a.picture.now
+    (inside a.width c.loop-left.left c.loop-left.from a.picture.now c.loop-left-test.true c.loop-left.invariant.0))
+    (c.requires.size.some_wide, c.requires.size.wide)
 
 pub overflow_add-count : goal.overflow_add-count
-overflow_add-count c = omega (arith, few c.args.width c.loop-left.from c.row_edges.result c.args.picture.now (inside c.args.width c.loop-left.left c.loop-left.from c.args.picture.now c.loop-left-test.true c.loop-left.invariant.0) c.row_edges.ensures, c.loop-left.invariant.1, inside c.args.width c.loop-left.left c.loop-left.from c.args.picture.now c.loop-left-test.true c.loop-left.invariant.0, sized_small c.requires)
+overflow_add-count c =
+    let a = c.args in
+    omega (
+      arith,
+      few a.width c.loop-left.from c.row_edges.result a.picture.now
+          (inside a.width c.loop-left.left c.loop-left.from a.picture.now c.loop-left-test.true c.loop-left.invariant.0) c.row_edges.ensures,
+      c.loop-left.invariant.1,
+      inside a.width c.loop-left.left c.loop-left.from a.picture.now c.loop-left-test.true c.loop-left.invariant.0,
+      sized_small c.requires,
+    )
 
 pub loop-left-preserved : goal.loop-left-preserved
 loop-left-preserved c =
@@ -41,11 +55,25 @@ loop-left-preserved c =
     let q = a.picture.now in
     let some = c.loop-left-test.true in (
       rows_left a.width q l.from l.left (l.left - 1) (omega arith) l.invariant.0,
-      omega (arith, few c.args.width c.loop-left.from c.row_edges.result c.args.picture.now (inside c.args.width c.loop-left.left c.loop-left.from c.args.picture.now c.loop-left-test.true c.loop-left.invariant.0) c.row_edges.ensures, l.invariant.1),
-      omega (arith, l.invariant.2, c.row_edges.ensures, all_more a.width l.left (drop l.from q) some, ap edges (row_at a.width l.from q), ap (all_edges a.width (l.left - 1)) (drop-drop a.width l.from q)),
+      omega (
+        arith,
+        few c.args.width c.loop-left.from c.row_edges.result c.args.picture.now
+            (inside c.args.width c.loop-left.left c.loop-left.from c.args.picture.now c.loop-left-test.true c.loop-left.invariant.0)
+            c.row_edges.ensures,
+        l.invariant.1,
+      ),
+      omega (
+        arith,
+        l.invariant.2,
+        c.row_edges.ensures,
+        all_more a.width l.left (drop l.from q) some,
+        ap edges (row_at a.width l.from q),
+        ap (all_edges a.width (l.left - 1)) (drop-drop a.width l.from q),
+      ),
     )
 
 pub returns : goal.returns
 returns c =
+    let a = c.args in
     let l = c.loop-left in
-    ap (ltb c.args.n) (omega (arith, l.invariant.2, all_none c.args.width l.left (drop l.from c.args.picture.now) c.loop-left-test.false))
+    ap (ltb a.n) (omega (arith, l.invariant.2, all_none a.width l.left (drop l.from a.picture.now) c.loop-left-test.false))

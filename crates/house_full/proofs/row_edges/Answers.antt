@@ -31,8 +31,16 @@ loop-i-preserved c =
     let l = c.loop-i in
     let h = c.loop-i-test.true in
     elim c.if-row-i.branch [
-      | then-row-i w ↦ (omega arith, omega (arith, w.count-is, l.invariant.1), omega (arith, w.count-is, l.invariant.2, count_other s l.i (omega arith) w.if-row-i.true))
-      | else-row-i w ↦ (omega arith, omega (arith, w.count-is, l.invariant.1), omega (arith, w.count-is, l.invariant.2, count_same s l.i (omega arith) w.if-row-i.false))
+      | then-row-i w ↦ (
+        omega arith,
+        omega (arith, w.count-is, l.invariant.1),
+        omega (arith, w.count-is, l.invariant.2, count_other s l.i (omega arith) w.if-row-i.true),
+      )
+      | else-row-i w ↦ (
+        omega arith,
+        omega (arith, w.count-is, l.invariant.1),
+        omega (arith, w.count-is, l.invariant.2, count_same s l.i (omega arith) w.if-row-i.false),
+      )
     ]
 
 pub returns : goal.returns

@@ -24,7 +24,8 @@ pub overflow_add-here : goal.overflow_add-here
 overflow_add-here c = omega (arith, filled_room c.loop-left.invariant c.loop-left-test.true, c.write_brun_row-here.ensures.0)
 
 pub loop-left-preserved : goal.loop-left-preserved
-loop-left-preserved c = filling_more c.loop-left.invariant c.loop-left-test.true c.write_brun_row-here.result c.write_brun_row-here.new.out c.write_brun_row-here.ensures.0 c.write_brun_row-here.ensures.1
+loop-left-preserved c = filling_more c.loop-left.invariant c.loop-left-test.true c.write_brun_row-here.result c.write_brun_row-here.new.out
+    c.write_brun_row-here.ensures.0 c.write_brun_row-here.ensures.1
 
 pub overflow_sub-result : goal.overflow_sub-result
 overflow_sub-result c = omega (arith, (filling_done c.loop-left.invariant c.loop-left-test.false).0)

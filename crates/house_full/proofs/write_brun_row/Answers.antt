@@ -17,5 +17,6 @@ returns c =
     let a = c.args in
     let l = length_row a.row.now in (
       omega (arith, c.write_row-written.ensures.1),
-      put_row a.out.now a.row.now c.write_row-written.new.out a.at c.write_row-written.result.packets c.count_byte.result c.write_row-written.ensures.0 c.write_row-written.ensures.2 (omega arith) c.count_byte.ensures,
+      put_row a.out.now a.row.now c.write_row-written.new.out a.at c.write_row-written.result.packets c.count_byte.result
+          c.write_row-written.ensures.0 c.write_row-written.ensures.2 (omega arith) c.count_byte.ensures,
     )

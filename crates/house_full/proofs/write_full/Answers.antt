@@ -47,7 +47,8 @@ pub returns-then-kind-eq-FLI_BRUN : goal.returns-then-kind-eq-FLI_BRUN
 returns-then-kind-eq-FLI_BRUN c =
     let a = c.args in
     let t = kind_brun a.width a.height a.picture.now c.requires.1 c.if-kind-eq-FLI_BRUN.true in
-    put_header_last a.out.now c.write_brun-size.new.out c.put_header-then-kind-eq-FLI_BRUN.new.out a.at (6 + c.write_brun-size.result) FLI_BRUN (brun_body a.width a.height a.picture.now)
+    put_header_last a.out.now c.write_brun-size.new.out c.put_header-then-kind-eq-FLI_BRUN.new.out a.at (6 + c.write_brun-size.result) FLI_BRUN
+    (brun_body a.width a.height a.picture.now)
     (ap (λ (n : ℕ). 6 + n) c.write_brun-size.ensures.0) (omega (arith, taken_size t)) c.write_brun-size.ensures.1 c.put_header-then-kind-eq-FLI_BRUN.ensures
     ∙ ap (put a.out.now a.at) (sym t.whole)
 

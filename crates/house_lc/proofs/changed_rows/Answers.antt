@@ -7,8 +7,12 @@ pub returns-then-end-first : goal.returns-then-end-first
 returns-then-end-first c =
     let a = c.args in
     let e = first_is a.width a.height a.previous.now a.next.now in
-    let f = c.run_of-first.ensures in
-    (omega (arith, e, f.0), omega (arith, e, f.0, c.up_to_last-end.ensures.0, c.if-end-first.true, count_is a.width a.height a.previous.now a.next.now), omega (arith, f.1))
+    let f = c.run_of-first.ensures in (
+      omega (arith, e, f.0),
+      omega
+          (arith, e, f.0, c.up_to_last-end.ensures.0, c.if-end-first.true, count_is a.width a.height a.previous.now a.next.now),
+      omega (arith, f.1),
+    )
 
 pub returns : goal.returns
 returns c =

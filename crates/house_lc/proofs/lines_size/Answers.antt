@@ -29,7 +29,8 @@ loop-left-preserved c =
     let a = c.args in
     let l = c.loop-left in
     let m = c.line_size-size in
-    sizing_on a.width a.previous.now a.next.now (line a.width) a.first a.n line_most l.r l.left l.size l.invariant m.result c.loop-left-test.true m.ensures.0 m.ensures.1
+    sizing_on a.width a.previous.now a.next.now (line a.width) a.first a.n line_most l.r l.left l.size l.invariant m.result c.loop-left-test.true
+    m.ensures.0 m.ensures.1
 
 pub returns : goal.returns
 returns c =

@@ -30,7 +30,8 @@ loop-left-preserved c =
     let a = c.args in
     let l = c.loop-left in
     let p = c.put_line-here in
-    storing_on a.width a.previous.now a.next.now (line a.width) a.first a.n a.out.now a.at l.out l.r l.left l.here l.invariant c.loop-left-test.true p.new.out p.result p.ensures.0 p.ensures.1
+    storing_on a.width a.previous.now a.next.now (line a.width) a.first a.n a.out.now a.at l.out l.r l.left l.here l.invariant c.loop-left-test.true
+    p.new.out p.result p.ensures.0 p.ensures.1
 
 pub shape_of-out : goal.shape_of-out
 shape_of-out c = c.loop-left.invariant.ahead.long
@@ -39,4 +40,5 @@ pub returns : goal.returns
 returns c =
     let a = c.args in
     let l = c.loop-left in
-    (storing_ends a.width a.previous.now a.next.now (line a.width) a.first a.n a.out.now a.at l.out l.r l.left l.here l.invariant (omega (arith, c.loop-left-test.false))).1
+    (storing_ends a.width a.previous.now a.next.now (line a.width) a.first a.n a.out.now a.at l.out l.r l.left l.here l.invariant
+    (omega (arith, c.loop-left-test.false))).1

@@ -20,13 +20,15 @@ pub returns-then-not-row_stays : goal.returns-then-not-row_stays
 returns-then-not-row_stays c =
     let a = c.args in
     let l = c.loop-r in
-    still_stops a.width a.height a.previous.now a.next.now l.r (l.r - 1) c.row_stays.result (omega (arith, c.loop-r-test.true)) l.invariant c.row_stays.ensures c.if-not-row_stays.true
+    still_stops a.width a.height a.previous.now a.next.now l.r (l.r - 1) c.row_stays.result (omega (arith, c.loop-r-test.true)) l.invariant
+    c.row_stays.ensures c.if-not-row_stays.true
 
 pub loop-r-preserved : goal.loop-r-preserved
 loop-r-preserved c =
     let a = c.args in
     let l = c.loop-r in
-    still_on a.width a.height a.previous.now a.next.now l.r (l.r - 1) c.row_stays.result (omega (arith, c.loop-r-test.true)) l.invariant c.row_stays.ensures c.if-not-row_stays.false
+    still_on a.width a.height a.previous.now a.next.now l.r (l.r - 1) c.row_stays.result (omega (arith, c.loop-r-test.true)) l.invariant
+    c.row_stays.ensures c.if-not-row_stays.false
 
 pub returns : goal.returns
 returns c =

@@ -15,8 +15,12 @@ overflow_add-x c = let a = c.args in omega (arith, c.loop-j-test.true, cells_few
 
 pub same_unit-requires : goal.same_unit-requires
 same_unit-requires c =
-    let a = c.args in
-    (c.requires.0, c.requires.1, c.requires.2, cell_inside a.unit (a.x + c.loop-j.j) (a.x + a.m) (length a.b.now) (omega (arith, c.loop-j-test.true)) c.requires.3)
+    let a = c.args in (
+      c.requires.0,
+      c.requires.1,
+      c.requires.2,
+      cell_inside a.unit (a.x + c.loop-j.j) (a.x + a.m) (length a.b.now) (omega (arith, c.loop-j-test.true)) c.requires.3,
+    )
 
 pub returns-then-not-same_unit : goal.returns-then-not-same_unit
 returns-then-not-same_unit c =

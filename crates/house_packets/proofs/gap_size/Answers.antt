@@ -14,11 +14,18 @@ loop-left-init c =
 pub packet_at-p-requires : goal.packet_at-p-requires
 packet_at-p-requires c =
     let a = c.args in
-    let f = c.requires.0 in
-    (f.some_unit, f.small_unit, f.some_least, f.small_least, omega (arith, c.loop-left-test.true), cells_inside a.unit _ (a.x + a.m) (length a.b.now) (omega (arith, c.loop-left.invariant.place)) c.requires.1)
+    let f = c.requires.0 in (
+      f.some_unit,
+      f.small_unit,
+      f.some_least,
+      f.small_least,
+      omega (arith, c.loop-left-test.true),
+      cells_inside a.unit _ (a.x + a.m) (length a.b.now) (omega (arith, c.loop-left.invariant.place)) c.requires.1,
+    )
 
 pub overflow_add-i : goal.overflow_add-i
-overflow_add-i c = let a = c.args in omega (arith, c.loop-left.invariant.place, c.packet_at-p.ensures.inside, cells_few a.unit (a.x + a.m) (length a.b.now) c.requires.0.some_unit c.requires.1)
+overflow_add-i c = let a = c.args in omega
+    (arith, c.loop-left.invariant.place, c.packet_at-p.ensures.inside, cells_few a.unit (a.x + a.m) (length a.b.now) c.requires.0.some_unit c.requires.1)
 
 pub loop-left-preserved : goal.loop-left-preserved
 loop-left-preserved c =

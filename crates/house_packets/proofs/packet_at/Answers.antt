@@ -12,14 +12,19 @@ use Rattle.house_packets.proofs.packet_at.Goals as goal
 
 pub equals_of-n-requires : goal.equals_of-n-requires
 equals_of-n-requires c =
-    let a = c.args in
-    (c.requires.0, c.requires.1, cell_inside a.unit a.x (a.x + a.m) (length a.b.now) (omega (arith, c.requires.4)) c.requires.5, cells_inside a.unit _ (a.x + a.m) (length a.b.now) (omega (arith, c.smaller.ensures)) c.requires.5)
+    let a = c.args in (
+      c.requires.0,
+      c.requires.1,
+      cell_inside a.unit a.x (a.x + a.m) (length a.b.now) (omega (arith, c.requires.4)) c.requires.5,
+      cells_inside a.unit _ (a.x + a.m) (length a.b.now) (omega (arith, c.smaller.ensures)) c.requires.5,
+    )
 
 pub returns-then-repeats_at : goal.returns-then-repeats_at
 returns-then-repeats_at c =
     let a = c.args in
     let b = a.b.now in
-    repeat_at a.unit a.least c.requires.0 c.requires.1 b a.x a.m c.requires.4 c.requires.5 c.equals_of-n.result (sym c.repeats_at.ensures ∙ c.if-repeats_at.true)
+    repeat_at a.unit a.least c.requires.0 c.requires.1 b a.x a.m c.requires.4 c.requires.5 c.equals_of-n.result
+    (sym c.repeats_at.ensures ∙ c.if-repeats_at.true)
     (c.equals_of-n.ensures.0 ∙ ap (λ (j : ℕ). equals (unit_at a.unit b a.x) (units_at a.unit b a.x j)) c.smaller.ensures)
 
 pub up_to_repeat-requires : goal.up_to_repeat-requires
@@ -34,5 +39,6 @@ pub returns : goal.returns
 returns c =
     let a = c.args in
     let b = a.b.now in
-    copy_at a.unit a.least c.requires.0 c.requires.1 b a.x a.m c.requires.4 c.requires.5 c.smaller-n.result c.up_to_repeat.result c.requires.2 (sym c.repeats_at.ensures ∙ c.if-repeats_at.false)
+    copy_at a.unit a.least c.requires.0 c.requires.1 b a.x a.m c.requires.4 c.requires.5 c.smaller-n.result c.up_to_repeat.result c.requires.2
+    (sym c.repeats_at.ensures ∙ c.if-repeats_at.false)
     (c.up_to_repeat.ensures ∙ ap (λ (j : ℕ). up_to_repeat a.least (units_at a.unit b a.x j)) c.smaller-2.ensures) c.smaller-n.ensures

@@ -13,20 +13,28 @@ loop-left-init c = let a = c.args in ahead_first a.out.now a.at (empty_packets a
 pub put_two-requires : goal.put_two-requires
 put_two-requires c =
     let a = c.args in
-    let l = c.loop-left in
-    (ahead_room a.out.now a.at (empty_packets a.longest a.s) l.invariant (a.longest ∷ 0 ∷ []) _ (empty_next a.longest l.left c.loop-left-test.true), c.requires.0, omega arith)
+    let l = c.loop-left in (
+      ahead_room a.out.now a.at (empty_packets a.longest a.s) l.invariant (a.longest ∷ 0 ∷ []) _ (empty_next a.longest l.left c.loop-left-test.true),
+      c.requires.0,
+      omega arith,
+    )
 
 pub overflow_add-here : goal.overflow_add-here
 overflow_add-here c =
     let a = c.args in
     let l = c.loop-left in
-    omega (arith, ahead_room a.out.now a.at (empty_packets a.longest a.s) l.invariant (a.longest ∷ 0 ∷ []) _ (empty_next a.longest l.left c.loop-left-test.true))
+    omega (
+      arith,
+      ahead_room a.out.now a.at (empty_packets a.longest a.s) l.invariant (a.longest ∷ 0 ∷ []) _
+          (empty_next a.longest l.left c.loop-left-test.true),
+    )
 
 pub loop-left-preserved : goal.loop-left-preserved
 loop-left-preserved c =
     let a = c.args in
     let l = c.loop-left in
-    ahead_on a.out.now a.at (empty_packets a.longest a.s) l.invariant (a.longest ∷ 0 ∷ []) _ (empty_next a.longest l.left c.loop-left-test.true) c.put_two.new.out _ refl c.put_two.ensures
+    ahead_on a.out.now a.at (empty_packets a.longest a.s) l.invariant (a.longest ∷ 0 ∷ []) _ (empty_next a.longest l.left c.loop-left-test.true)
+    c.put_two.new.out _ refl c.put_two.ensures
 
 pub shape_of-out : goal.shape_of-out
 shape_of-out c = c.loop-left.invariant.long

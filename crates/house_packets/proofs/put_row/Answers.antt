@@ -17,7 +17,8 @@ loop-s-init c =
       omega arith,
       omega arith,
       measured_first a.unit a.n a.a.now a.b.now (stretch_packets a.unit a.least a.longest),
-      written_first a.unit a.n a.a.now a.b.now (stretch_bytes a.unit a.least a.longest) a.out.now a.at (omega (arith, c.requires.4, ap length (row_bytes a.unit a.least a.longest a.n a.a.now a.b.now))),
+      written_first a.unit a.n a.a.now a.b.now (stretch_bytes a.unit a.least a.longest) a.out.now a.at
+          (omega (arith, c.requires.4, ap length (row_bytes a.unit a.least a.longest a.n a.a.now a.b.now))),
     )
 
 pub next_stretch-s-requires : goal.next_stretch-s-requires
@@ -33,13 +34,16 @@ returns-then-s-eq0 c =
     let s = c.next_stretch-s in
     let e = row_bytes a.unit a.least a.longest a.n a.a.now a.b.now in (
       record {
-        number = measured_all a.unit a.n a.a.now a.b.now (stretch_packets a.unit a.least a.longest) l.i s.result.gap s.result.changed l.count s.ensures l.invariant.2 c.if-s-eq0.true
+        number = measured_all a.unit a.n a.a.now a.b.now (stretch_packets a.unit a.least a.longest) l.i s.result.gap s.result.changed l.count
+            s.ensures l.invariant.2 c.if-s-eq0.true
             ∙ ap length (sym (row_stretches a.unit a.least a.longest a.n a.a.now a.b.now));
         ends =
-            (written_all a.unit a.n a.a.now a.b.now (stretch_bytes a.unit a.least a.longest) a.out.now a.at l.out l.here l.i s.result.gap s.result.changed s.ensures l.invariant.3 c.if-s-eq0.true).0
+            (written_all a.unit a.n a.a.now a.b.now (stretch_bytes a.unit a.least a.longest) a.out.now a.at l.out l.here l.i s.result.gap
+            s.result.changed s.ensures l.invariant.3 c.if-s-eq0.true).0
             ∙ ap (λ (v : _). a.at + length v) (sym e);
         stored =
-            (written_all a.unit a.n a.a.now a.b.now (stretch_bytes a.unit a.least a.longest) a.out.now a.at l.out l.here l.i s.result.gap s.result.changed s.ensures l.invariant.3 c.if-s-eq0.true).1
+            (written_all a.unit a.n a.a.now a.b.now (stretch_bytes a.unit a.least a.longest) a.out.now a.at l.out l.here l.i s.result.gap
+            s.result.changed s.ensures l.invariant.3 c.if-s-eq0.true).1
             ∙ ap (put a.out.now a.at) (sym e);
       },
       omega (arith, l.invariant.1, l.invariant.0),
@@ -49,7 +53,11 @@ pub overflow_mul-unit : goal.overflow_mul-unit
 overflow_mul-unit c =
     let a = c.args in
     let s = c.next_stretch-s in
-    omega (arith, (stretch_fits a.unit a.least a.longest c.requires.0 a.n c.loop-s.i s.result.gap s.result.changed max_width (length a.b.now) s.ensures.inside c.requires.1 c.requires.3).gap_wide)
+    omega (
+      arith,
+      (stretch_fits a.unit a.least a.longest c.requires.0 a.n c.loop-s.i s.result.gap s.result.changed max_width (length a.b.now)
+          s.ensures.inside c.requires.1 c.requires.3).gap_wide,
+    )
 
 pub put_gap-p-requires : goal.put_gap-p-requires
 put_gap-p-requires c =
@@ -63,15 +71,25 @@ put_gap-p-requires c =
       cells_inside a.unit _ (l.i + g + m) (length a.b.now) (omega (arith, c.if-s-eq0.false)) f.row,
       f.gap_wide,
       omega (arith, f.changed_wide),
-      written_room a.unit a.n a.a.now a.b.now (stretch_bytes a.unit a.least a.longest) a.out.now a.at l.out l.here l.i g m s.ensures l.invariant.3 _ (ap bytes (stretch_gap a.unit a.least a.longest a.a.now a.b.now l.i g m)) (omega (arith, c.if-s-eq0.false)),
+      written_room a.unit a.n a.a.now a.b.now (stretch_bytes a.unit a.least a.longest) a.out.now a.at l.out l.here l.i g m s.ensures l.invariant.3 _
+          (ap bytes (stretch_gap a.unit a.least a.longest a.a.now a.b.now l.i g m)) (omega (arith, c.if-s-eq0.false)),
     )
 
 pub overflow_add-count : goal.overflow_add-count
 overflow_add-count c =
     let a = c.args in
     let s = c.next_stretch-s in
-    let f = stretch_fits a.unit a.least a.longest c.requires.0 a.n c.loop-s.i s.result.gap s.result.changed max_width (length a.b.now) s.ensures.inside c.requires.1 c.requires.3 in
-    omega (arith, c.put_gap-p.ensures.1, f.gap_wide, f.changed_wide, c.loop-s.invariant.1, c.loop-s.invariant.0, cells_few a.unit a.n max_width c.requires.0.some_unit c.requires.1)
+    let f = stretch_fits a.unit a.least a.longest c.requires.0 a.n c.loop-s.i s.result.gap s.result.changed max_width (length a.b.now)
+    s.ensures.inside c.requires.1 c.requires.3 in
+    omega (
+      arith,
+      c.put_gap-p.ensures.1,
+      f.gap_wide,
+      f.changed_wide,
+      c.loop-s.invariant.1,
+      c.loop-s.invariant.0,
+      cells_few a.unit a.n max_width c.requires.0.some_unit c.requires.1,
+    )
 
 pub overflow_add-i-in-loop-s-2 : goal.overflow_add-i-in-loop-s-2
 overflow_add-i-in-loop-s-2 c =
@@ -94,7 +112,9 @@ loop-s-preserved c =
     let e = stretch_gap a.unit a.least a.longest a.a.now a.b.now l.i g m in (
       s.ensures.inside,
       omega (arith, p.ensures.1, f.gap),
-      measured_on a.unit a.n a.a.now a.b.now (stretch_packets a.unit a.least a.longest) l.i g m l.count s.ensures l.invariant.2 p.result.count some (p.ensures.0.number ∙ ap length e),
-      written_on a.unit a.n a.a.now a.b.now (stretch_bytes a.unit a.least a.longest) a.out.now a.at l.out l.here l.i g m s.ensures l.invariant.3 _ (ap bytes e) some
+      measured_on a.unit a.n a.a.now a.b.now (stretch_packets a.unit a.least a.longest) l.i g m l.count s.ensures l.invariant.2 p.result.count some
+          (p.ensures.0.number ∙ ap length e),
+      written_on a.unit a.n a.a.now a.b.now (stretch_bytes a.unit a.least a.longest) a.out.now a.at l.out l.here l.i g m s.ensures l.invariant.3 _
+          (ap bytes e) some
           p.new.out p.result.end p.ensures.0.ends p.ensures.0.stored,
     )

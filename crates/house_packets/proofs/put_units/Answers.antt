@@ -13,28 +13,37 @@ loop-left-init c =
 
 pub packet_at-p-requires : goal.packet_at-p-requires
 packet_at-p-requires c =
-    let a = c.args in
-    (c.requires.0, c.requires.1, c.requires.2, c.requires.3, omega (arith, c.loop-left-test.true), cells_inside a.unit _ (a.x + a.m) (length a.b.now) (omega (arith, c.loop-left.invariant.place)) c.requires.4)
+    let a = c.args in (
+      c.requires.0,
+      c.requires.1,
+      c.requires.2,
+      c.requires.3,
+      omega (arith, c.loop-left-test.true),
+      cells_inside a.unit _ (a.x + a.m) (length a.b.now) (omega (arith, c.loop-left.invariant.place)) c.requires.4,
+    )
 
 pub put_packet-here-requires : goal.put_packet-here-requires
 put_packet-here-requires c =
     let a = c.args in
     let l = c.loop-left in
     let p = c.packet_at-p in (
-      storing_room a.unit a.least a.b.now a.x a.m a.k a.out.now a.at l.out l.here l.skip l.i l.left l.count l.invariant p.result.units p.result.code p.result.len p.ensures,
+      storing_room a.unit a.least a.b.now a.x a.m a.k a.out.now a.at l.out l.here l.skip l.i l.left l.count l.invariant p.result.units p.result.code
+          p.result.len p.ensures,
       l.invariant.small,
       p.ensures.byte,
     )
 
 pub overflow_add-i : goal.overflow_add-i
-overflow_add-i c = let a = c.args in omega (arith, c.loop-left.invariant.place, c.packet_at-p.ensures.inside, cells_few a.unit (a.x + a.m) (length a.b.now) c.requires.0 c.requires.4)
+overflow_add-i c = let a = c.args in omega
+    (arith, c.loop-left.invariant.place, c.packet_at-p.ensures.inside, cells_few a.unit (a.x + a.m) (length a.b.now) c.requires.0 c.requires.4)
 
 pub loop-left-preserved : goal.loop-left-preserved
 loop-left-preserved c =
     let a = c.args in
     let l = c.loop-left in
     let p = c.packet_at-p in
-    storing_on a.unit a.least a.b.now a.x a.m a.k a.out.now a.at l.out l.here l.skip l.i l.left l.count l.invariant p.result.units p.result.code p.result.len p.ensures
+    storing_on a.unit a.least a.b.now a.x a.m a.k a.out.now a.at l.out l.here l.skip l.i l.left l.count l.invariant p.result.units p.result.code
+    p.result.len p.ensures
     c.put_packet-here.new.out c.put_packet-here.result c.put_packet-here.ensures
 
 pub shape_of-out : goal.shape_of-out

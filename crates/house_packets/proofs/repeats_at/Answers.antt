@@ -16,8 +16,12 @@ overflow_add-x c = let a = c.args in omega (arith, c.if-m-least.false, c.require
 
 pub equals_of-requires : goal.equals_of-requires
 equals_of-requires c =
-    let a = c.args in
-    (c.requires.0, c.requires.1, cell_inside a.unit a.x (a.x + a.m) (length a.b.now) (omega (arith, c.if-m-least.false, c.requires.2)) c.requires.3, cells_inside a.unit _ (a.x + a.m) (length a.b.now) (omega (arith, c.if-m-least.false, c.requires.2)) c.requires.3)
+    let a = c.args in (
+      c.requires.0,
+      c.requires.1,
+      cell_inside a.unit a.x (a.x + a.m) (length a.b.now) (omega (arith, c.if-m-least.false, c.requires.2)) c.requires.3,
+      cells_inside a.unit _ (a.x + a.m) (length a.b.now) (omega (arith, c.if-m-least.false, c.requires.2)) c.requires.3,
+    )
 
 pub returns : goal.returns
 returns c =

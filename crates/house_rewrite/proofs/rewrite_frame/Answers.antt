@@ -21,7 +21,8 @@ exact z p q e h = front_exact z (state p q) e (area z) refl h
 pub returns-then-not-size_fits : goal.returns-then-not-size_fits
 returns-then-not-size_fits c =
     let a = c.args in
-    sym (rewrite_size a.bytes.now a.size (state a.previous_picture.now a.previous_palette.now) (state a.work_picture.now a.work_palette.now) a.out.now (sym c.size_fits.ensures ∙ c.if-not-size_fits.true))
+    sym (rewrite_size a.bytes.now a.size (state a.previous_picture.now a.previous_palette.now) (state a.work_picture.now a.work_palette.now)
+    a.out.now (sym c.size_fits.ensures ∙ c.if-not-size_fits.true))
 
 pub overflow_mul-n : goal.overflow_mul-n
 overflow_mul-n c = let z = c.args.size in omega (arith, (size_in_lem z (sym c.size_fits.ensures ∙ c.if-not-size_fits.false)).area)
@@ -29,49 +30,75 @@ overflow_mul-n c = let z = c.args.size in omega (arith, (size_in_lem z (sym c.si
 pub returns-then-not-holds : goal.returns-then-not-holds
 returns-then-not-holds c =
     let a = c.args in
-    sym (rewrite_short a.bytes.now a.size (state a.previous_picture.now a.previous_palette.now) (state a.work_picture.now a.work_palette.now) a.out.now (sym c.size_fits.ensures ∙ c.if-not-size_fits.false) (sym c.holds.ensures ∙ c.if-not-holds.true))
+    sym (rewrite_short a.bytes.now a.size (state a.previous_picture.now a.previous_palette.now) (state a.work_picture.now a.work_palette.now)
+    a.out.now (sym c.size_fits.ensures ∙ c.if-not-size_fits.false) (sym c.holds.ensures ∙ c.if-not-holds.true))
 
 pub returns-then-not-holds-2 : goal.returns-then-not-holds-2
 returns-then-not-holds-2 c =
     let a = c.args in
-    sym (rewrite_work_short a.bytes.now a.size (state a.previous_picture.now a.previous_palette.now) (state a.work_picture.now a.work_palette.now) a.out.now (sym c.size_fits.ensures ∙ c.if-not-size_fits.false) (sym c.holds.ensures ∙ c.if-not-holds.false) (sym c.holds-2.ensures ∙ c.if-not-holds-2.true))
+    sym (rewrite_work_short a.bytes.now a.size (state a.previous_picture.now a.previous_palette.now) (state a.work_picture.now a.work_palette.now)
+    a.out.now (sym c.size_fits.ensures ∙ c.if-not-size_fits.false) (sym c.holds.ensures ∙ c.if-not-holds.false)
+    (sym c.holds-2.ensures ∙ c.if-not-holds-2.true))
 
 pub check_frame-requires : goal.check_frame-requires
-check_frame-requires c = (exact c.args.size c.args.previous_picture.now c.args.previous_palette.now (sym c.size_fits.ensures ∙ c.if-not-size_fits.false) (sym c.holds.ensures ∙ c.if-not-holds.false)).picture.size
+check_frame-requires c =
+    let a = c.args in
+    (exact a.size a.previous_picture.now a.previous_palette.now (sym c.size_fits.ensures ∙ c.if-not-size_fits.false)
+    (sym c.holds.ensures ∙ c.if-not-holds.false)).picture.size
 
 pub returns-in-Refused : goal.returns-in-Refused
 returns-in-Refused c =
     let a = c.args in
-    sym (rewrite_read a.bytes.now a.size (state a.previous_picture.now a.previous_palette.now) (state a.work_picture.now a.work_palette.now) a.out.now (sym c.size_fits.ensures ∙ c.if-not-size_fits.false) (sym c.holds.ensures ∙ c.if-not-holds.false) (sym c.holds-2.ensures ∙ c.if-not-holds-2.false) _ (sym c.check_frame.ensures ∙ c.in-Refused.is))
+    sym (rewrite_read a.bytes.now a.size (state a.previous_picture.now a.previous_palette.now) (state a.work_picture.now a.work_palette.now)
+    a.out.now (sym c.size_fits.ensures ∙ c.if-not-size_fits.false) (sym c.holds.ensures ∙ c.if-not-holds.false)
+    (sym c.holds-2.ensures ∙ c.if-not-holds-2.false) _ (sym c.check_frame.ensures ∙ c.in-Refused.is))
 
 pub slice_bounds-rewrite_accepted-end : goal.slice_bounds-rewrite_accepted-end
-slice_bounds-rewrite_accepted-end c = let a = c.args in (enough_in (area a.size) (state a.work_picture.now a.work_palette.now) (sym c.holds-2.ensures ∙ c.if-not-holds-2.false)).0
+slice_bounds-rewrite_accepted-end c = let a = c.args in
+    (enough_in (area a.size) (state a.work_picture.now a.work_palette.now) (sym c.holds-2.ensures ∙ c.if-not-holds-2.false)).0
 
 pub slice_bounds-rewrite_accepted-end-2 : goal.slice_bounds-rewrite_accepted-end-2
-slice_bounds-rewrite_accepted-end-2 c = sym (exact c.args.size c.args.work_picture.now c.args.work_palette.now (sym c.size_fits.ensures ∙ c.if-not-size_fits.false) (sym c.holds-2.ensures ∙ c.if-not-holds-2.false)).picture.pixels
+slice_bounds-rewrite_accepted-end-2 c =
+    let a = c.args in
+    sym (exact a.size a.work_picture.now a.work_palette.now (sym c.size_fits.ensures ∙ c.if-not-size_fits.false)
+    (sym c.holds-2.ensures ∙ c.if-not-holds-2.false)).picture.pixels
 
 pub slice_bounds-rewrite_accepted-end-3 : goal.slice_bounds-rewrite_accepted-end-3
-slice_bounds-rewrite_accepted-end-3 c = let a = c.args in (enough_in (area a.size) (state a.work_picture.now a.work_palette.now) (sym c.holds-2.ensures ∙ c.if-not-holds-2.false)).1
+slice_bounds-rewrite_accepted-end-3 c = let a = c.args in
+    (enough_in (area a.size) (state a.work_picture.now a.work_palette.now) (sym c.holds-2.ensures ∙ c.if-not-holds-2.false)).1
 
 pub slice_bounds-rewrite_accepted-end-4 : goal.slice_bounds-rewrite_accepted-end-4
-slice_bounds-rewrite_accepted-end-4 c = sym (exact c.args.size c.args.work_picture.now c.args.work_palette.now (sym c.size_fits.ensures ∙ c.if-not-size_fits.false) (sym c.holds-2.ensures ∙ c.if-not-holds-2.false)).colours
+slice_bounds-rewrite_accepted-end-4 c =
+    let a = c.args in
+    sym (exact a.size a.work_picture.now a.work_palette.now (sym c.size_fits.ensures ∙ c.if-not-size_fits.false)
+    (sym c.holds-2.ensures ∙ c.if-not-holds-2.false)).colours
 
 pub slice_bounds-rewrite_accepted-end-5 : goal.slice_bounds-rewrite_accepted-end-5
-slice_bounds-rewrite_accepted-end-5 c = sym (exact c.args.size c.args.previous_picture.now c.args.previous_palette.now (sym c.size_fits.ensures ∙ c.if-not-size_fits.false) (sym c.holds.ensures ∙ c.if-not-holds.false)).picture.pixels
+slice_bounds-rewrite_accepted-end-5 c =
+    let a = c.args in
+    sym (exact a.size a.previous_picture.now a.previous_palette.now (sym c.size_fits.ensures ∙ c.if-not-size_fits.false)
+    (sym c.holds.ensures ∙ c.if-not-holds.false)).picture.pixels
 
 pub slice_bounds-rewrite_accepted-end-6 : goal.slice_bounds-rewrite_accepted-end-6
-slice_bounds-rewrite_accepted-end-6 c = sym (exact c.args.size c.args.previous_picture.now c.args.previous_palette.now (sym c.size_fits.ensures ∙ c.if-not-size_fits.false) (sym c.holds.ensures ∙ c.if-not-holds.false)).colours
+slice_bounds-rewrite_accepted-end-6 c =
+    let a = c.args in
+    sym (exact a.size a.previous_picture.now a.previous_palette.now (sym c.size_fits.ensures ∙ c.if-not-size_fits.false)
+    (sym c.holds.ensures ∙ c.if-not-holds.false)).colours
 
 pub rewrite_accepted-requires : goal.rewrite_accepted-requires
-rewrite_accepted-requires c = (
-  exact c.args.size c.args.work_picture.now c.args.work_palette.now (sym c.size_fits.ensures ∙ c.if-not-size_fits.false) (sym c.holds-2.ensures ∙ c.if-not-holds-2.false),
-  exact c.args.size c.args.previous_picture.now c.args.previous_palette.now (sym c.size_fits.ensures ∙ c.if-not-size_fits.false) (sym c.holds.ensures ∙ c.if-not-holds.false),
-)
+rewrite_accepted-requires c =
+    let a = c.args in (
+      exact a.size a.work_picture.now a.work_palette.now (sym c.size_fits.ensures ∙ c.if-not-size_fits.false) (sym c.holds-2.ensures ∙ c.if-not-holds-2.false),
+      exact a.size a.previous_picture.now a.previous_palette.now (sym c.size_fits.ensures ∙ c.if-not-size_fits.false) (sym c.holds.ensures ∙ c.if-not-holds.false),
+    )
 
 pub returns : goal.returns
 returns c =
     let a = c.args in
     let s = front (area a.size) (state a.previous_picture.now a.previous_palette.now) in
     let r = c.rewrite_accepted in
-    rewrote_from a.size s (played (frame a.size a.bytes.now) s) r.result _ _ (state a.work_picture.now a.work_palette.now) a.out.now _ r.ensures.picture r.ensures.palette r.ensures.output
-    ∙ sym (rewrite_read a.bytes.now a.size (state a.previous_picture.now a.previous_palette.now) (state a.work_picture.now a.work_palette.now) a.out.now (sym c.size_fits.ensures ∙ c.if-not-size_fits.false) (sym c.holds.ensures ∙ c.if-not-holds.false) (sym c.holds-2.ensures ∙ c.if-not-holds-2.false) _ (sym c.check_frame.ensures ∙ c.in-Done.is))
+    rewrote_from a.size s (played (frame a.size a.bytes.now) s) r.result _ _ (state a.work_picture.now a.work_palette.now) a.out.now _
+    r.ensures.picture r.ensures.palette r.ensures.output
+    ∙ sym (rewrite_read a.bytes.now a.size (state a.previous_picture.now a.previous_palette.now) (state a.work_picture.now a.work_palette.now)
+    a.out.now (sym c.size_fits.ensures ∙ c.if-not-size_fits.false) (sym c.holds.ensures ∙ c.if-not-holds.false)
+    (sym c.holds-2.ensures ∙ c.if-not-holds-2.false) _ (sym c.check_frame.ensures ∙ c.in-Done.is))

@@ -20,4 +20,5 @@ plan_row-plan-requires c =
     (s.some_wide, s.wide, length-take-le (length c.args.row.now - 0) c.row_room-first.result (omega (arith, s.wide)) ∙ omega arith)
 
 pub returns : goal.returns
-returns c = search_told c.args.row.now c.plan_row-plan.new.first c.plan_row-plan.result.size c.plan_row-plan.result.turns (sym c.size_ok.ensures ∙ c.if-not-size_ok.false) c.plan_row-plan.ensures
+returns c = search_told c.args.row.now c.plan_row-plan.new.first c.plan_row-plan.result.size c.plan_row-plan.result.turns
+    (sym c.size_ok.ensures ∙ c.if-not-size_ok.false) c.plan_row-plan.ensures

@@ -1,4 +1,5 @@
--- `sweep` meets its contract. After place j: low is the lowest end from t + 1 to j, and far has the lowest end up to each place passed; one place more joins a range of one on the right.
+-- `sweep` meets its contract. After place j: low is the lowest end from t + 1 to j, and far has the lowest end up to each place passed; one place
+-- more joins a range of one on the right.
 use mathlib.Core.Path.{ap, sym, subst, ◌∙◌}
 use Prim.Native.Nat.{◌+◌}
 use native.Mathlib.Omega.{arith}
@@ -9,16 +10,28 @@ use Rattle.house_rows.proofs.Windows.{swept_more, lower_next, lower_small, end_p
 use Rattle.house_rows.proofs.sweep.Goals as goal
 
 pub loop-j-init : goal.loop-j-init
-loop-j-init c =
-    (omega arith, omega arith, omega arith, omega arith, c.end_at-low.ensures.1, λ e. ap (λ (x : End). x.sum) c.end_at-low.ensures.0, λ l. absurd (omega arith), λ k l h. absurd (omega arith))
+loop-j-init c = (
+  omega arith,
+  omega arith,
+  omega arith,
+  omega arith,
+  c.end_at-low.ensures.1,
+  λ e. ap (λ (x : End). x.sum) c.end_at-low.ensures.0,
+  λ l. absurd (omega arith),
+  λ k l h. absurd (omega arith),
+)
 
 pub packed-requires : goal.packed-requires
 packed-requires c =
     let a = c.args in
     let e = c.end_at.ensures.0 in
     let more = lower_next (sum_at a.sums.now) a.t c.loop-j.j c.loop-j.low c.end_at.result c.lower-low.result c.loop-j.invariant.1
-    (ap (λ (x : End). x.place) e) (ap (λ (x : End). x.sum) e) (λ q. c.loop-j.invariant.5 q ∙ sym (ap (λ (x : End). x.sum) e)) c.loop-j.invariant.6 c.lower-low.ensures in
-    (omega (arith, more.lowest.high), lower_small 65536 c.end_at.result c.loop-j.low c.lower-low.result c.lower-low.ensures c.end_at.ensures.1 c.loop-j.invariant.4)
+    (ap (λ (x : End). x.place) e) (ap (λ (x : End). x.sum) e) (λ q. c.loop-j.invariant.5 q ∙ sym (ap (λ (x : End). x.sum) e)) c.loop-j.invariant.6
+    c.lower-low.ensures in (
+      omega (arith, more.lowest.high),
+      lower_small 65536 c.end_at.result c.loop-j.low c.lower-low.result c.lower-low.ensures c.end_at.ensures.1
+          c.loop-j.invariant.4,
+    )
 
 pub loop-j-preserved : goal.loop-j-preserved
 loop-j-preserved c =
@@ -26,7 +39,8 @@ loop-j-preserved c =
     let L = c.loop-j in
     let e = c.end_at.ensures.0 in
     let more = lower_next (sum_at a.sums.now) a.t c.loop-j.j c.loop-j.low c.end_at.result c.lower-low.result c.loop-j.invariant.1
-    (ap (λ (x : End). x.place) e) (ap (λ (x : End). x.sum) e) (λ q. c.loop-j.invariant.5 q ∙ sym (ap (λ (x : End). x.sum) e)) c.loop-j.invariant.6 c.lower-low.ensures in
+    (ap (λ (x : End). x.place) e) (ap (λ (x : End). x.sum) e) (λ q. c.loop-j.invariant.5 q ∙ sym (ap (λ (x : End). x.sum) e)) c.loop-j.invariant.6
+    c.lower-low.ensures in
     let back = end_packed c.lower-low.result c.packed.result (omega (arith, more.lowest.high)) c.packed.ensures in (
       simp length-set L.invariant.0,
       omega arith,

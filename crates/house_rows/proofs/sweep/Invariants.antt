@@ -1,4 +1,5 @@
--- `sweep` meets its contract. After place j: low is the lowest end from t + 1 to j, and far has the lowest end up to each place passed; one place more joins a range of one on the right.
+-- `sweep` meets its contract. After place j: low is the lowest end from t + 1 to j, and far has the lowest end up to each place passed; one place
+-- more joins a range of one on the right.
 use mathlib.Core.Path.{◌≡◌}
 use Prim.Native.Nat.{◌+◌, ◌-◌, ◌≤◌, ◌<◌}
 use lib.ListN.{length}
@@ -9,7 +10,8 @@ use Rattle.house_rows.proofs.sweep.Given as goal
 
 abbrev pub invariant-loop-j : goal.invariant-loop-j
 invariant-loop-j l =
-    (length l.far ≡ max_width + 1) × (l.t ≤ l.j) × (l.j ≤ l.t + 128) × (l.turns + l.t ≡ l.j) × (l.low.sum < 65536) × (l.j ≡ l.t → l.low.sum ≡ sum_at l.sums (l.j + 1))
+    (length l.far ≡ max_width + 1) × (l.t ≤ l.j) × (l.j ≤ l.t + 128) × (l.turns + l.t ≡ l.j) × (l.low.sum < 65536)
+    × (l.j ≡ l.t → l.low.sum ≡ sum_at l.sums (l.j + 1))
     × (l.t < l.j → LowestEnd (sum_at l.sums) (l.t + 1) l.j l.low) × Swept (sum_at l.sums) l.t l.j l.far
 
 abbrev pub decreases-loop-j : goal.decreases-loop-j

@@ -54,7 +54,8 @@ pub loop-x-preserved : goal.loop-x-preserved
 loop-x-preserved c =
     let a = c.args in
     let L = c.loop-x in
-    writing_as (writing_more L.invariant (get_or a.first.now L.x 0) (omega arith) (type a.row.now a.first.now L.x c.requires.1 (omega arith)) c.write_packet-here.new.out c.write_packet-here.ensures.1)
+    writing_as (writing_more L.invariant (get_or a.first.now L.x 0) (omega arith) (type a.row.now a.first.now L.x c.requires.1 (omega arith))
+    c.write_packet-here.new.out c.write_packet-here.ensures.1)
     (omega arith) (omega arith)
 
 pub overflow_sub-result : goal.overflow_sub-result

@@ -24,7 +24,8 @@ returns-then-s-eq0 c =
     let s = c.next_stretch-s in (
       omega (
         arith,
-        measured_all a.width a.height a.previous.now a.next.now (stretch_lines a.width) l.i s.result.gap s.result.changed l.size s.ensures l.invariant.2 c.if-s-eq0.true,
+        measured_all a.width a.height a.previous.now a.next.now (stretch_lines a.width) l.i s.result.gap s.result.changed l.size s.ensures
+            l.invariant.2 c.if-s-eq0.true,
         body_length a.width a.height a.previous.now a.next.now,
       ),
       omega (arith, l.invariant.0, l.invariant.1, c.requires.2),

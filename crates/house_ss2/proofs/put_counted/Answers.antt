@@ -5,8 +5,13 @@ use Rattle.house_ss2.proofs.put_counted.Goals as goal
 
 pub put_row-p-requires : goal.put_row-p-requires
 put_row-p-requires c =
-    let a = c.args in
-    (pairs_form, omega (arith, c.requires), omega (arith, c.requires), omega (arith, c.requires), omega (arith, c.requires.3, counted_length a.width a.a.now a.b.now))
+    let a = c.args in (
+      pairs_form,
+      omega (arith, c.requires),
+      omega (arith, c.requires),
+      omega (arith, c.requires),
+      omega (arith, c.requires.3, counted_length a.width a.a.now a.b.now),
+    )
 
 pub put_u16-requires : goal.put_u16-requires
 put_u16-requires c =

@@ -31,7 +31,8 @@ loop-left-preserved c =
     let a = c.args in
     let l = c.loop-left in
     let e = c.put_row-here.ensures in
-    storing_on a.width a.previous.now a.next.now (line a.width) a.first a.n a.out.now a.at l.out l.r l.left l.here l.invariant c.loop-left-test.true c.put_row-here.new.out c.put_row-here.result e.0 e.1
+    storing_on a.width a.previous.now a.next.now (line a.width) a.first a.n a.out.now a.at l.out l.r l.left l.here l.invariant c.loop-left-test.true
+    c.put_row-here.new.out c.put_row-here.result e.0 e.1
 
 pub shape_of-out : goal.shape_of-out
 shape_of-out c = c.loop-left.invariant.ahead.long
@@ -40,4 +41,5 @@ pub returns : goal.returns
 returns c =
     let a = c.args in
     let l = c.loop-left in
-    storing_ends a.width a.previous.now a.next.now (line a.width) a.first a.n a.out.now a.at l.out l.r l.left l.here l.invariant (omega (arith, c.loop-left-test.false))
+    storing_ends a.width a.previous.now a.next.now (line a.width) a.first a.n a.out.now a.at l.out l.r l.left l.here l.invariant
+    (omega (arith, c.loop-left-test.false))

@@ -33,7 +33,8 @@ returns-then-s-eq0 c =
     let s = c.next_stretch-s in (
       measured_all a.width a.height a.previous.now a.next.now rows l.i s.result.gap s.result.changed l.count s.ensures l.invariant.2 c.if-s-eq0.true,
       omega (arith, l.invariant.0, l.invariant.1),
-      (written_all a.width a.height a.previous.now a.next.now (stretch_lines a.width) a.out.now a.at l.out l.here l.i s.result.gap s.result.changed s.ensures l.invariant.3 c.if-s-eq0.true).1,
+      (written_all a.width a.height a.previous.now a.next.now (stretch_lines a.width) a.out.now a.at l.out l.here l.i s.result.gap s.result.changed
+          s.ensures l.invariant.3 c.if-s-eq0.true).1,
     )
 
 pub put_stretch-here-requires : goal.put_stretch-here-requires
@@ -48,7 +49,8 @@ put_stretch-here-requires c =
       omega (arith, x, c.requires.2),
       cells_inside a.width n a.height (length a.previous.now) x (omega (arith, c.requires.3)),
       cells_inside a.width n a.height (length a.next.now) x (omega (arith, c.requires.4)),
-      written_room a.width a.height a.previous.now a.next.now (stretch_lines a.width) a.out.now a.at l.out l.here l.i s.result.gap s.result.changed s.ensures l.invariant.3 _ refl (omega (arith, c.if-s-eq0.false)),
+      written_room a.width a.height a.previous.now a.next.now (stretch_lines a.width) a.out.now a.at l.out l.here l.i s.result.gap s.result.changed
+          s.ensures l.invariant.3 _ refl (omega (arith, c.if-s-eq0.false)),
     )
 
 pub loop-s-smaller : goal.loop-s-smaller
@@ -65,6 +67,8 @@ loop-s-preserved c =
     let p = c.put_stretch-here in (
       s.ensures.inside,
       omega (arith, l.invariant.1, s.ensures.inside),
-      measured_on a.width a.height a.previous.now a.next.now rows l.i g m l.count s.ensures l.invariant.2 m some (stretch_rows a.width l.i g m a.previous.now a.next.now),
-      written_on a.width a.height a.previous.now a.next.now (stretch_lines a.width) a.out.now a.at l.out l.here l.i g m s.ensures l.invariant.3 _ refl some p.new.out p.result p.ensures.0 p.ensures.1,
+      measured_on a.width a.height a.previous.now a.next.now rows l.i g m l.count s.ensures l.invariant.2 m some
+          (stretch_rows a.width l.i g m a.previous.now a.next.now),
+      written_on a.width a.height a.previous.now a.next.now (stretch_lines a.width) a.out.now a.at l.out l.here l.i g m s.ensures l.invariant.3 _
+          refl some p.new.out p.result p.ensures.0 p.ensures.1,
     )

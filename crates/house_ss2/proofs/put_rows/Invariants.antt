@@ -7,7 +7,8 @@ use Rattle.house_ss2.proofs.put_rows.Given as goal
 
 abbrev pub invariant-loop-s : goal.invariant-loop-s
 invariant-loop-s l =
-    (l.i ≤ l.height) × (l.count ≤ l.i) × Measured l.width l.height l.previous l.next rows l.i l.count × Written l.width l.height l.previous l.next (stretch_lines l.width) l.initial.out l.at l.out l.here l.i
+    (l.i ≤ l.height) × (l.count ≤ l.i) × Measured l.width l.height l.previous l.next rows l.i l.count
+    × Written l.width l.height l.previous l.next (stretch_lines l.width) l.initial.out l.at l.out l.here l.i
 
 abbrev pub decreases-loop-s : goal.decreases-loop-s
 decreases-loop-s l = l.height - l.i

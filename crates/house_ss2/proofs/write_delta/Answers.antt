@@ -17,4 +17,5 @@ pub returns : goal.returns
 returns c =
     let a = c.args in
     let p = c.put_rows-count in
-    body_stored a.width a.height a.previous.now a.next.now a.out.now p.new.out c.put_u16.new.out a.at p.result p.ensures.0 c.requires.5 p.ensures.2 c.put_u16.ensures
+    body_stored a.width a.height a.previous.now a.next.now a.out.now p.new.out c.put_u16.new.out a.at p.result p.ensures.0 c.requires.5 p.ensures.2
+    c.put_u16.ensures

@@ -14,26 +14,30 @@ pub list_children-returns-in-Fault : goal.list_children-returns-in-Fault
 list_children-returns-in-Fault t c =
     let a = c.args in
     let l = c.loop-left in
-    let stop = children_step (inside (LIST_DEPTH - a.depth) a.b.now a.depth) a.b.now a.depth a.parent a.to l.left l.at c.loop-left-test.true (a.to - 0) (sub-zero a.to) _ (sym c.in-Fault.ensures) in
+    let stop = children_step (inside (LIST_DEPTH - a.depth) a.b.now a.depth) a.b.now a.depth a.parent a.to l.left l.at c.loop-left-test.true
+    (a.to - 0) (sub-zero a.to) _ (sym c.in-Fault.ensures) in
     resumes_done (resumes_as stop l.invariant.resumes)
 
 pub list_children-overflow_sub-end : goal.list_children-overflow_sub-end
 list_children-overflow_sub-end t c =
     let a = c.args in
-    let x = child_in a.b.now (λ i. omega (arith, c.type_inv.b i)) (omega arith) a.depth (a.to - 0) c.loop-left.at _ _ (omega arith) (omega arith) (sym c.in-Chunk.ensures) in
+    let x = child_in a.b.now (λ i. omega (arith, c.type_inv.b i)) (omega arith) a.depth (a.to - 0) c.loop-left.at _ _ (omega arith) (omega arith)
+    (sym c.in-Chunk.ensures) in
     omega arith
 
 pub list_children-put_line-n-requires : goal.list_children-put_line-n-requires
 list_children-put_line-n-requires t c =
     let a = c.args in
-    let x = child_in a.b.now (λ i. omega (arith, c.type_inv.b i)) (omega arith) a.depth (a.to - 0) c.loop-left.at _ _ (omega arith) (omega arith) (sym c.in-Chunk.ensures) in
+    let x = child_in a.b.now (λ i. omega (arith, c.type_inv.b i)) (omega arith) a.depth (a.to - 0) c.loop-left.at _ _ (omega arith) (omega arith)
+    (sym c.in-Chunk.ensures) in
     omega arith
 
 pub list_children-list_container-n-requires : goal.list_children-list_container-n-requires
 list_children-list_container-n-requires t c =
     let a = c.args in
     let l = c.loop-left in
-    let x = child_in a.b.now (λ i. omega (arith, c.type_inv.b i)) (omega arith) a.depth (a.to - 0) l.at _ _ (omega arith) (omega arith) (sym c.in-Chunk.ensures) in
+    let x = child_in a.b.now (λ i. omega (arith, c.type_inv.b i)) (omega arith) a.depth (a.to - 0) l.at _ _ (omega arith) (omega arith)
+    (sym c.in-Chunk.ensures) in
     let less : 2 * (c.in-Chunk.end - l.at) < t = omega arith in
     (less, (omega arith, omega arith, omega arith, omega arith, omega arith))
 
@@ -45,23 +49,29 @@ list_children-loop-left-preserved t c =
     let end = c.in-Chunk.end in
     let p = c.put_line-n in
     let j = c.if-is_opened in
-    let x = child_in a.b.now (λ i. omega (arith, c.type_inv.b i)) (omega arith) a.depth (a.to - 0) l.at _ _ (omega arith) (omega arith) (sym c.in-Chunk.ensures) in
+    let x = child_in a.b.now (λ i. omega (arith, c.type_inv.b i)) (omega arith) a.depth (a.to - 0) l.at _ _ (omega arith) (omega arith)
+    (sym c.in-Chunk.ensures) in
     let line = chunk_line a.depth l.at kind (end - l.at) in
     let opened = cond (opens kind a.parent) (container_of a.b.now a.depth l.at end kind) [] in
-    let room = opened_short a.b.now (λ i. omega (arith, c.type_inv.b i)) (omega arith) a.depth (omega arith) (opens kind a.parent) (a.to - 0) l.at kind end (omega arith) x in
+    let room = opened_short a.b.now (λ i. omega (arith, c.type_inv.b i)) (omega arith) a.depth (omega arith) (opens kind a.parent) (a.to - 0) l.at
+    kind end (omega arith) x in
     let came : Stored p.new.out p.result opened j.out j.n × (j.at ≡ end) =
     elim j.branch [
       | list_children-then-is_opened w ↦
           (let o : opens kind a.parent ≡ true = sym c.is_opened.ensures ∙ w.if-is_opened.true in rw (o, w.out-is, w.n-is) w.list_container-n.ensures, w.at-is)
-      | list_children-else-is_opened w ↦
-          (let o : opens kind a.parent ≡ false = sym c.is_opened.ensures ∙ w.if-is_opened.false in rw (o, w.out-is, w.n-is) (stored_none p.new.out p.result), w.at-is)
+      | list_children-else-is_opened w ↦ (
+        let o : opens kind a.parent ≡ false = sym c.is_opened.ensures ∙ w.if-is_opened.false in
+            rw (o, w.out-is, w.n-is) (stored_none p.new.out p.result),
+        w.at-is,
+      )
     ] in
     let kept : length p.new.out ≡ length l.out = p.auto.out in
     let next : p.result ≡ l.n + length line = p.ensures.end in
     let same = stored_length (omega arith) came.0 in
     let behind : j.n ≡ p.result + length opened = came.0.end in
     let here : j.at ≡ end = came.1 in
-    let step = children_step (inside (LIST_DEPTH - a.depth) a.b.now a.depth) a.b.now a.depth a.parent a.to l.left l.at c.loop-left-test.true (a.to - 0) (sub-zero a.to) _ (sym c.in-Chunk.ensures) in
+    let step = children_step (inside (LIST_DEPTH - a.depth) a.b.now a.depth) a.b.now a.depth a.parent a.to l.left l.at c.loop-left-test.true
+    (a.to - 0) (sub-zero a.to) _ (sym c.in-Chunk.ensures) in
     record {
       after_start = omega arith;
       within = omega arith;

@@ -25,8 +25,22 @@ pub list_children-m-requires : goal.list_children-m-requires
 list_children-m-requires c =
     let a = c.args in
     let p = c.put_head-n in
-    let kept : length p.new.out ≡ length a.out.now = p.auto.out in
-    (c.requires.1, c.requires.2, c.requires.0.short, omega arith, omega (arith, listed_head a.b.now a.width a.height a.frames c.requires.0, c.requires.0.short, c.requires.3, p.ensures.end, kept, c.requires.1, c.requires.2))
+    let kept : length p.new.out ≡ length a.out.now = p.auto.out in (
+      c.requires.1,
+      c.requires.2,
+      c.requires.0.short,
+      omega arith,
+      omega (
+        arith,
+        listed_head a.b.now a.width a.height a.frames c.requires.0,
+        c.requires.0.short,
+        c.requires.3,
+        p.ensures.end,
+        kept,
+        c.requires.1,
+        c.requires.2,
+      ),
+    )
 
 pub put_ok-requires : goal.put_ok-requires
 put_ok-requires c =
@@ -34,7 +48,15 @@ put_ok-requires c =
     let p = c.put_head-n in
     let kept : length c.list_children-m.new.out ≡ length p.new.out = c.list_children-m.auto.out in
     let kept₀ : length p.new.out ≡ length a.out.now = p.auto.out in
-    omega (arith, kept, kept₀, room a.b.now a.out.now a.width a.height a.frames a.end (λ i. omega (arith, c.type_inv.b i)) c.requires.0 c.requires.1 c.requires.2 c.requires.3, p.ensures.end, c.list_children-m.ensures.end)
+    omega (
+      arith,
+      kept,
+      kept₀,
+      room a.b.now a.out.now a.width a.height a.frames a.end (λ i. omega (arith, c.type_inv.b i)) c.requires.0 c.requires.1
+          c.requires.2 c.requires.3,
+      p.ensures.end,
+      c.list_children-m.ensures.end,
+    )
 
 pub returns : goal.returns
 returns c =

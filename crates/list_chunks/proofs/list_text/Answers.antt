@@ -48,7 +48,10 @@ pub returns-in-Fault : goal.returns-in-Fault
 returns-in-Fault c = rw (listing_head c.args.bytes.now (omega arith) _ (sym c.in-Fault.ensures)) c.put_refused-in-Fault.ensures
 
 pub returns-in-Fault-walk_frames : goal.returns-in-Fault-walk_frames
-returns-in-Fault-walk_frames c = rw (listing_walk c.args.bytes.now (omega arith) _ _ _ _ (sym c.in-Reel.ensures) _ (sub-zero c.in-Reel.size) _ (sym c.in-Fault-walk_frames.ensures)) c.put_refused-in-Fault-walk_frames.ensures
+returns-in-Fault-walk_frames c = rw
+    (listing_walk c.args.bytes.now (omega arith) _ _ _ _ (sym c.in-Reel.ensures) _ (sub-zero c.in-Reel.size) _ (sym c.in-Fault-walk_frames.ensures))
+    c.put_refused-in-Fault-walk_frames.ensures
 
 pub returns-in-End : goal.returns-in-End
-returns-in-End c = rw (listing_walk c.args.bytes.now (omega arith) _ _ _ _ (sym c.in-Reel.ensures) _ (sub-zero c.in-Reel.size) _ (sym c.in-End.ensures)) c.list_reel.ensures
+returns-in-End c = rw
+    (listing_walk c.args.bytes.now (omega arith) _ _ _ _ (sym c.in-Reel.ensures) _ (sub-zero c.in-Reel.size) _ (sym c.in-End.ensures)) c.list_reel.ensures

@@ -6,4 +6,5 @@ use Rattle.list_io.proofs.list_input.Goals as goal
 pub returns : goal.returns
 returns c =
     let n = c.in_ok-n.n in
-    printed c.read_full.new.room (n - 0) c.read_full.ensures.bytes (omega (arith, c.read_full.auto.room, c.input_room-room.ensures)) (omega (arith, c.in_ok-n.ensures.within)) c.list_text-count.ensures
+    printed c.read_full.new.room (n - 0) c.read_full.ensures.bytes (omega (arith, c.read_full.auto.room, c.input_room-room.ensures))
+    (omega (arith, c.in_ok-n.ensures.within)) c.list_text-count.ensures

@@ -24,7 +24,8 @@ returns-then-code-lt128 c =
     let m : n ≡ a.code = c.wide.ensures.0 in
     let k = magnitude_plus a.code c.if-code-lt128.true in
     span_back a.picture.now c.fill.new.part (pixels a.body.now a.at a.code) a.to (a.to + n) n
-    (c.fill.ensures ∙ ap (λ (i : ℕ). replicate i (get_or a.body.now a.at 0)) (span_length a.picture.now a.to (a.to + n) a.code (omega (arith, k)) (omega arith)) ∙ sym (pixels_repeat a.body.now a.at a.code c.if-code-lt128.true))
+    (c.fill.ensures ∙ ap (λ (i : ℕ). replicate i (get_or a.body.now a.at 0))
+    (span_length a.picture.now a.to (a.to + n) a.code (omega (arith, k)) (omega arith)) ∙ sym (pixels_repeat a.body.now a.at a.code c.if-code-lt128.true))
     (length_pixels a.body.now a.at a.code c.requires.0 ∙ k ∙ sym m) (omega arith)
 
 pub overflow_add-stop-2 : goal.overflow_add-stop-2

@@ -12,22 +12,33 @@ pub loop-row-init : goal.loop-row-init
 loop-row-init c =
     let a = c.args in
     let z : 0 ≡ 0 * a.width = omega arith in
-    let y : a.height ≡ a.height - 0 = omega arith in
-    (omega arith, omega arith, refl, brun_seen a.pass a.width a.height a.body.now a.picture.now ∙ ap₂ (λ (n to : ℕ). shown a.pass (rows a.width a.body.now n 0) a.picture.now to) y z)
+    let y : a.height ≡ a.height - 0 = omega arith in (
+      omega arith,
+      omega arith,
+      refl,
+      brun_seen a.pass a.width a.height a.body.now a.picture.now
+          ∙ ap₂ (λ (n to : ℕ). shown a.pass (rows a.width a.body.now n 0) a.picture.now to) y z,
+    )
 
 pub overflow_mul-row : goal.overflow_mul-row
 overflow_mul-row c = omega (arith, row_in c.args.width c.args.height c.loop-row.row c.loop-row-test.true, c.requires.0.area)
 
 pub walk_row-requires : goal.walk_row-requires
 walk_row-requires c =
-    let in_picture = row_in c.args.width c.args.height c.loop-row.row c.loop-row-test.true in
-    (c.loop-row.invariant.0, omega (arith, in_picture, c.requires.0.area), c.requires.0.wide, λ wet. omega (arith, in_picture, c.requires.1 wet, c.loop-row.invariant.2))
+    let in_picture = row_in c.args.width c.args.height c.loop-row.row c.loop-row-test.true in (
+      c.loop-row.invariant.0,
+      omega (arith, in_picture, c.requires.0.area),
+      c.requires.0.wide,
+      λ wet. omega (arith, in_picture, c.requires.1 wet, c.loop-row.invariant.2),
+    )
 
 pub returns-in-Fault : goal.returns-in-Fault
 returns-in-Fault c =
     let a = c.args in
     let l = c.loop-row in
-    seen_gives _ _ _ _ _ (l.invariant.3 ∙ rows_stopped a.pass a.width a.height a.body.now l.picture c.walk_row.new.picture l.row l.at c.loop-row-test.true c.walk_row.ensures.writes _ (sym c.walk_row.ensures.verdict ∙ c.in-Fault.is))
+    seen_gives _ _ _ _ _
+    (l.invariant.3 ∙ rows_stopped a.pass a.width a.height a.body.now l.picture c.walk_row.new.picture l.row l.at c.loop-row-test.true
+    c.walk_row.ensures.writes _ (sym c.walk_row.ensures.verdict ∙ c.in-Fault.is))
 
 pub loop-row-preserved : goal.loop-row-preserved
 loop-row-preserved c =
@@ -46,4 +57,6 @@ pub returns : goal.returns
 returns c =
     let a = c.args in
     let l = c.loop-row in
-    seen_gives _ _ _ _ _ (l.invariant.3 ∙ shown_none a.pass _ l.picture (l.row * a.width) _ (rows_none a.width a.body.now (a.height - l.row) l.at (omega (arith, c.loop-row-test.false))))
+    seen_gives _ _ _ _ _
+    (l.invariant.3 ∙ shown_none a.pass _ l.picture (l.row * a.width) _
+    (rows_none a.width a.body.now (a.height - l.row) l.at (omega (arith, c.loop-row-test.false))))

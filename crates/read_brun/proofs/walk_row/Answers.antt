@@ -1,4 +1,5 @@
--- `walk_row` meets its contract. The invariant: the packets left, from here on the picture as it is, give what the row gives from its place on the picture as found.
+-- `walk_row` meets its contract. The invariant: the packets left, from here on the picture as it is, give what the row gives from its place on the
+-- picture as found.
 use Rattle.read_brun.proofs.Laws.{packet_in, row_cut, row_open, packets_stop, packets_none, packets_on, shown, shown_gives, shown_none}
 use Rattle.read_brun.specs.Brun.{Run}
 use native.Mathlib.Omega.{arith}
@@ -19,10 +20,13 @@ pub returns-in-Fault : goal.returns-in-Fault
 returns-in-Fault c =
     let a = c.args in
     let l = c.loop-left in
-    shown_gives _ _ _ _ _ _ (l.invariant.3 ∙ shown_none a.pass _ l.picture l.to _ (packets_stop a.body.now l.left l.at c.loop-left-test.true _ (sym c.packet_at.ensures ∙ c.in-Fault.is)))
+    shown_gives _ _ _ _ _ _
+    (l.invariant.3 ∙ shown_none a.pass _ l.picture l.to _
+    (packets_stop a.body.now l.left l.at c.loop-left-test.true _ (sym c.packet_at.ensures ∙ c.in-Fault.is)))
 
 pub overflow_add-at-in-Pixels : goal.overflow_add-at-in-Pixels
-overflow_add-at-in-Pixels c = omega (arith, (packet_in _ _ _ _ (sym c.packet_at.ensures ∙ c.in-Pixels.is)).3, (packet_in _ _ _ _ (sym c.packet_at.ensures ∙ c.in-Pixels.is)).4)
+overflow_add-at-in-Pixels c = omega
+    (arith, (packet_in _ _ _ _ (sym c.packet_at.ensures ∙ c.in-Pixels.is)).3, (packet_in _ _ _ _ (sym c.packet_at.ensures ∙ c.in-Pixels.is)).4)
 
 pub put_packet-requires : goal.put_packet-requires
 put_packet-requires c =
@@ -31,13 +35,15 @@ put_packet-requires c =
     (omega (arith, i.3, i.4), λ wet. omega (arith, i.1, i.2, c.requires.3 wet, l.invariant.1, l.invariant.2))
 
 pub overflow_add-to : goal.overflow_add-to
-overflow_add-to c = let l = c.loop-left in omega (arith, (packet_in _ _ _ _ (sym c.packet_at.ensures ∙ c.in-Pixels.is)).1, l.invariant.1, c.requires.1, c.requires.2)
+overflow_add-to c = let l = c.loop-left in
+    omega (arith, (packet_in _ _ _ _ (sym c.packet_at.ensures ∙ c.in-Pixels.is)).1, l.invariant.1, c.requires.1, c.requires.2)
 
 pub overflow_sub-left : goal.overflow_sub-left
 overflow_sub-left c = (packet_in _ _ _ _ (sym c.packet_at.ensures ∙ c.in-Pixels.is)).1
 
 pub loop-left-smaller : goal.loop-left-smaller
-loop-left-smaller c = omega (arith, (packet_in _ _ _ _ (sym c.packet_at.ensures ∙ c.in-Pixels.is)).0, (packet_in _ _ _ _ (sym c.packet_at.ensures ∙ c.in-Pixels.is)).1)
+loop-left-smaller c = omega
+    (arith, (packet_in _ _ _ _ (sym c.packet_at.ensures ∙ c.in-Pixels.is)).0, (packet_in _ _ _ _ (sym c.packet_at.ensures ∙ c.in-Pixels.is)).1)
 
 pub loop-left-preserved : goal.loop-left-preserved
 loop-left-preserved c =
@@ -48,7 +54,8 @@ loop-left-preserved c =
       omega (arith, l.invariant.1, i.1),
       c.put_packet.auto.picture ∙ l.invariant.2,
       l.invariant.3
-          ∙ packets_on a.pass a.body.now l.picture c.put_packet.new.picture l.to l.left l.at c.loop-left-test.true _ _ _ (sym c.packet_at.ensures ∙ c.in-Pixels.is)
+          ∙ packets_on a.pass a.body.now l.picture c.put_packet.new.picture l.to l.left l.at c.loop-left-test.true _ _ _
+          (sym c.packet_at.ensures ∙ c.in-Pixels.is)
           (λ wet. omega (arith, c.requires.3 wet, l.invariant.1, l.invariant.2)) c.put_packet.ensures,
     )
 

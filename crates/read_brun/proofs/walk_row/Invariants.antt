@@ -1,4 +1,5 @@
--- `walk_row` meets its contract. The invariant: the packets left, from here on the picture as it is, give what the row gives from its place on the picture as found.
+-- `walk_row` meets its contract. The invariant: the packets left, from here on the picture as it is, give what the row gives from its place on the
+-- picture as found.
 use Rattle.read_brun.proofs.Laws.{shown}
 use Rattle.read_brun.specs.Brun.{packets, row}
 use lib.ListN.{length}

@@ -18,7 +18,8 @@ unfolding by_kind
 returns-in-4 c =
     let a = c.args in
     let x = c.walk_colour in
-    on_palette_lem a.size a.kind a.body.now (colour Of256 a.body.now) a.pass _ (c.judge.ensures ∙ ap (judged (length a.body.now)) x.ensures.verdict) a.picture.now a.palette.now _
+    on_palette_lem a.size a.kind a.body.now (colour Of256 a.body.now) a.pass _ (c.judge.ensures ∙ ap (judged (length a.body.now)) x.ensures.verdict)
+    a.picture.now a.palette.now _
     (kind_is a.size a.kind a.body.now 4 c.in-4.is) x.ensures.writes
 
 pub returns-in-7 : goal.returns-in-7
@@ -26,7 +27,8 @@ unfolding by_kind
 returns-in-7 c =
     let a = c.args in
     let x = c.walk_ss2 in
-    on_picture_lem a.size a.kind a.body.now (ss2 a.size.width a.size.height a.body.now) a.pass _ (c.judge-in-7.ensures ∙ ap (judged (length a.body.now)) x.ensures.verdict) a.picture.now a.palette.now _
+    on_picture_lem a.size a.kind a.body.now (ss2 a.size.width a.size.height a.body.now) a.pass _
+    (c.judge-in-7.ensures ∙ ap (judged (length a.body.now)) x.ensures.verdict) a.picture.now a.palette.now _
     (kind_is a.size a.kind a.body.now 7 c.in-7.is) x.ensures.writes
 
 pub returns-in-11 : goal.returns-in-11
@@ -34,7 +36,8 @@ unfolding by_kind
 returns-in-11 c =
     let a = c.args in
     let x = c.walk_colour-in-11 in
-    on_palette_lem a.size a.kind a.body.now (colour Of64 a.body.now) a.pass _ (c.judge-in-11.ensures ∙ ap (judged (length a.body.now)) x.ensures.verdict) a.picture.now a.palette.now _
+    on_palette_lem a.size a.kind a.body.now (colour Of64 a.body.now) a.pass _
+    (c.judge-in-11.ensures ∙ ap (judged (length a.body.now)) x.ensures.verdict) a.picture.now a.palette.now _
     (kind_is a.size a.kind a.body.now 11 c.in-11.is) x.ensures.writes
 
 pub returns-in-12 : goal.returns-in-12
@@ -42,7 +45,8 @@ unfolding by_kind
 returns-in-12 c =
     let a = c.args in
     let x = c.walk_lc in
-    on_picture_lem a.size a.kind a.body.now (lc a.size.width a.size.height a.body.now) a.pass _ (c.judge-in-12.ensures ∙ ap (judged (length a.body.now)) x.ensures.verdict) a.picture.now a.palette.now _
+    on_picture_lem a.size a.kind a.body.now (lc a.size.width a.size.height a.body.now) a.pass _
+    (c.judge-in-12.ensures ∙ ap (judged (length a.body.now)) x.ensures.verdict) a.picture.now a.palette.now _
     (kind_is a.size a.kind a.body.now 12 c.in-12.is) x.ensures.writes
 
 pub returns-in-13 : goal.returns-in-13
@@ -50,7 +54,8 @@ unfolding by_kind
 returns-in-13 c =
     let a = c.args in
     let x = c.walk_black in
-    on_picture_lem a.size a.kind a.body.now (black (a.size.width * a.size.height)) a.pass _ (c.judge-in-13.ensures ∙ ap (judged (length a.body.now)) x.ensures.verdict) a.picture.now a.palette.now _
+    on_picture_lem a.size a.kind a.body.now (black (a.size.width * a.size.height)) a.pass _
+    (c.judge-in-13.ensures ∙ ap (judged (length a.body.now)) x.ensures.verdict) a.picture.now a.palette.now _
     (kind_is a.size a.kind a.body.now 13 c.in-13.is) x.ensures.writes
 
 pub returns-in-15 : goal.returns-in-15
@@ -58,7 +63,8 @@ unfolding by_kind
 returns-in-15 c =
     let a = c.args in
     let x = c.walk_brun in
-    on_picture_lem a.size a.kind a.body.now (brun a.size.width a.size.height a.body.now) a.pass _ (c.judge-in-15.ensures ∙ ap (judged (length a.body.now)) x.ensures.verdict) a.picture.now a.palette.now _
+    on_picture_lem a.size a.kind a.body.now (brun a.size.width a.size.height a.body.now) a.pass _
+    (c.judge-in-15.ensures ∙ ap (judged (length a.body.now)) x.ensures.verdict) a.picture.now a.palette.now _
     (kind_is a.size a.kind a.body.now 15 c.in-15.is) x.ensures.writes
 
 pub returns-in-16 : goal.returns-in-16
@@ -66,7 +72,8 @@ unfolding by_kind
 returns-in-16 c =
     let a = c.args in
     let x = c.walk_copy in
-    on_picture_lem a.size a.kind a.body.now (copied (a.size.width * a.size.height) a.body.now) a.pass _ (c.judge-in-16.ensures ∙ ap (judged (length a.body.now)) x.ensures.verdict) a.picture.now a.palette.now _
+    on_picture_lem a.size a.kind a.body.now (copied (a.size.width * a.size.height) a.body.now) a.pass _
+    (c.judge-in-16.ensures ∙ ap (judged (length a.body.now)) x.ensures.verdict) a.picture.now a.palette.now _
     (kind_is a.size a.kind a.body.now 16 c.in-16.is) x.ensures.writes
 
 pub returns-in_default : goal.returns-in_default

@@ -16,20 +16,31 @@ returns-then-body-at-lt2 c =
 pub returns-then-next-gt256 : goal.returns-then-next-gt256
 returns-then-next-gt256 c =
     let a = c.args in
-    sym (packet_past a.levels a.body.now a.at _ _ c.if-next-gt256.true) ∙ (let a = c.args in packet_at_lem a.levels a.body.now a.at a.i _ _ (omega arith) (ap (λ (k : ℕ). a.i + k) c.wide.ensures.0) (c.count_of-m.ensures.0 ∙ ap count_of c.wide-2.ensures.0))
+    sym (packet_past a.levels a.body.now a.at _ _ c.if-next-gt256.true)
+    ∙ (let a = c.args in packet_at_lem a.levels a.body.now a.at a.i _ _ (omega arith) (ap (λ (k : ℕ). a.i + k) c.wide.ensures.0)
+    (c.count_of-m.ensures.0 ∙ ap count_of c.wide-2.ensures.0))
 
 pub returns-then-body-from : goal.returns-then-body-from
 returns-then-body-from c =
     let a = c.args in
-    sym (packet_short a.levels a.body.now a.at _ _ c.if-next-gt256.false (omega arith)) ∙ (let a = c.args in packet_at_lem a.levels a.body.now a.at a.i _ _ (omega arith) (ap (λ (k : ℕ). a.i + k) c.wide.ensures.0) (c.count_of-m.ensures.0 ∙ ap count_of c.wide-2.ensures.0))
+    sym (packet_short a.levels a.body.now a.at _ _ c.if-next-gt256.false (omega arith))
+    ∙ (let a = c.args in packet_at_lem a.levels a.body.now a.at a.i _ _ (omega arith) (ap (λ (k : ℕ). a.i + k) c.wide.ensures.0)
+    (c.count_of-m.ensures.0 ∙ ap count_of c.wide-2.ensures.0))
 
 pub returns-then-levels_ok : goal.returns-then-levels_ok
 returns-then-levels_ok c =
     let a = c.args in
-    let k = (let a = c.args in ap (λ (k : ℕ). levels_ok a.levels (take k (drop (a.at + 2) a.body.now))) (sym (add-sub_cancel_left (a.at + 2) (3 * c.count_of-m.result))) ∙ sym c.levels_ok.ensures) ∙ c.if-levels_ok.true in
-    sym (packet_whole a.levels a.body.now a.at _ _ (omega arith) c.if-next-gt256.false k) ∙ (let a = c.args in packet_at_lem a.levels a.body.now a.at a.i _ _ (omega arith) (ap (λ (k : ℕ). a.i + k) c.wide.ensures.0) (c.count_of-m.ensures.0 ∙ ap count_of c.wide-2.ensures.0))
+    let k = (let a = c.args in ap (λ (k : ℕ). levels_ok a.levels (take k (drop (a.at + 2) a.body.now)))
+    (sym (add-sub_cancel_left (a.at + 2) (3 * c.count_of-m.result))) ∙ sym c.levels_ok.ensures) ∙ c.if-levels_ok.true in
+    sym (packet_whole a.levels a.body.now a.at _ _ (omega arith) c.if-next-gt256.false k)
+    ∙ (let a = c.args in packet_at_lem a.levels a.body.now a.at a.i _ _ (omega arith) (ap (λ (k : ℕ). a.i + k) c.wide.ensures.0)
+    (c.count_of-m.ensures.0 ∙ ap count_of c.wide-2.ensures.0))
 
 pub returns-else-levels_ok : goal.returns-else-levels_ok
 returns-else-levels_ok c =
     let a = c.args in
-    sym (packet_level a.levels a.body.now a.at _ _ (omega arith) c.if-next-gt256.false ((let a = c.args in ap (λ (k : ℕ). levels_ok a.levels (take k (drop (a.at + 2) a.body.now))) (sym (add-sub_cancel_left (a.at + 2) (3 * c.count_of-m.result))) ∙ sym c.levels_ok.ensures) ∙ c.if-levels_ok.false)) ∙ (let a = c.args in packet_at_lem a.levels a.body.now a.at a.i _ _ (omega arith) (ap (λ (k : ℕ). a.i + k) c.wide.ensures.0) (c.count_of-m.ensures.0 ∙ ap count_of c.wide-2.ensures.0))
+    sym (packet_level a.levels a.body.now a.at _ _ (omega arith) c.if-next-gt256.false
+    ((let a = c.args in ap (λ (k : ℕ). levels_ok a.levels (take k (drop (a.at + 2) a.body.now)))
+    (sym (add-sub_cancel_left (a.at + 2) (3 * c.count_of-m.result))) ∙ sym c.levels_ok.ensures) ∙ c.if-levels_ok.false))
+    ∙ (let a = c.args in packet_at_lem a.levels a.body.now a.at a.i _ _ (omega arith) (ap (λ (k : ℕ). a.i + k) c.wide.ensures.0)
+    (c.count_of-m.ensures.0 ∙ ap count_of c.wide-2.ensures.0))

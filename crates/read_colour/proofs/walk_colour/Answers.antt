@@ -14,14 +14,21 @@ returns-then-body-lt2 c =
 
 pub loop-left-init : goal.loop-left-init
 loop-left-init c =
-    let a = c.args in
-    (search rules, search rules, refl, ap (λ (k : Walk). seen a.pass k a.palette.now) (colours_open a.levels a.body.now _ (omega arith) c.u16_at-left.ensures.value))
+    let a = c.args in (
+      search rules,
+      search rules,
+      refl,
+      ap (λ (k : Walk). seen a.pass k a.palette.now)
+          (colours_open a.levels a.body.now _ (omega arith) c.u16_at-left.ensures.value),
+    )
 
 pub returns-in-Fault : goal.returns-in-Fault
 returns-in-Fault c =
     let a = c.args in
     let l = c.loop-left in
-    seen_gives _ _ _ _ _ (l.invariant.3 ∙ seen_none a.pass _ l.palette _ (packets_stop a.levels a.body.now l.left l.at l.index c.loop-left-test.true _ (sym c.in-Fault.is ∙ c.packet_at.ensures)))
+    seen_gives _ _ _ _ _
+    (l.invariant.3 ∙ seen_none a.pass _ l.palette _
+    (packets_stop a.levels a.body.now l.left l.at l.index c.loop-left-test.true _ (sym c.in-Fault.is ∙ c.packet_at.ensures)))
 
 pub put_colours-requires : goal.put_colours-requires
 put_colours-requires c =
@@ -38,7 +45,8 @@ loop-left-preserved c =
       k.0,
       k.2,
       c.put_colours.auto.palette ∙ l.invariant.2,
-      l.invariant.3 ∙ packets_on a.levels a.body.now a.pass l.palette c.put_colours.new.palette l.left l.at l.index c.loop-left-test.true _ _ _ _ (sym c.in-Colours.is ∙ c.packet_at.ensures) c.put_colours.ensures,
+      l.invariant.3 ∙ packets_on a.levels a.body.now a.pass l.palette c.put_colours.new.palette l.left l.at l.index c.loop-left-test.true _ _ _ _
+          (sym c.in-Colours.is ∙ c.packet_at.ensures) c.put_colours.ensures,
     )
 
 pub returns : goal.returns

@@ -23,24 +23,29 @@ overflow_mul-n c = let z = c.args.size in omega (arith, (size_in_lem z (sym c.si
 pub returns-then-not-holds : goal.returns-then-not-holds
 returns-then-not-holds c =
     let a = c.args in
-    sym (read_short a.bytes.now a.size (state a.picture.now a.palette.now) (sym c.size_fits.ensures ∙ c.if-not-size_fits.false) (sym c.holds.ensures ∙ c.if-not-holds.true))
+    sym (read_short a.bytes.now a.size (state a.picture.now a.palette.now) (sym c.size_fits.ensures ∙ c.if-not-size_fits.false)
+    (sym c.holds.ensures ∙ c.if-not-holds.true))
 
 pub slice_bounds-play_frame-end : goal.slice_bounds-play_frame-end
 slice_bounds-play_frame-end c = (let a = c.args in enough_in (area a.size) (state a.picture.now a.palette.now) (sym c.holds.ensures ∙ c.if-not-holds.false)).0
 
 pub slice_bounds-play_frame-end-2 : goal.slice_bounds-play_frame-end-2
-slice_bounds-play_frame-end-2 c = sym (length-take-le _ _ (let a = c.args in enough_in (area a.size) (state a.picture.now a.palette.now) (sym c.holds.ensures ∙ c.if-not-holds.false)).0)
+slice_bounds-play_frame-end-2 c = sym
+    (length-take-le _ _ (let a = c.args in enough_in (area a.size) (state a.picture.now a.palette.now) (sym c.holds.ensures ∙ c.if-not-holds.false)).0)
 
 pub slice_bounds-play_frame-end-3 : goal.slice_bounds-play_frame-end-3
 slice_bounds-play_frame-end-3 c = (let a = c.args in enough_in (area a.size) (state a.picture.now a.palette.now) (sym c.holds.ensures ∙ c.if-not-holds.false)).1
 
 pub slice_bounds-play_frame-end-4 : goal.slice_bounds-play_frame-end-4
-slice_bounds-play_frame-end-4 c = sym (length-take-le 768 c.args.palette.now (let a = c.args in enough_in (area a.size) (state a.picture.now a.palette.now) (sym c.holds.ensures ∙ c.if-not-holds.false)).1)
+slice_bounds-play_frame-end-4 c = sym
+    (length-take-le 768 c.args.palette.now
+    (let a = c.args in enough_in (area a.size) (state a.picture.now a.palette.now) (sym c.holds.ensures ∙ c.if-not-holds.false)).1)
 
 pub play_frame-requires : goal.play_frame-requires
 play_frame-requires c =
     let a = c.args in
-    front_exact a.size (state a.picture.now a.palette.now) (sym c.size_fits.ensures ∙ c.if-not-size_fits.false) (area a.size) refl (sym c.holds.ensures ∙ c.if-not-holds.false)
+    front_exact a.size (state a.picture.now a.palette.now) (sym c.size_fits.ensures ∙ c.if-not-size_fits.false) (area a.size) refl
+    (sym c.holds.ensures ∙ c.if-not-holds.false)
 
 pub returns : goal.returns
 returns c =
@@ -49,4 +54,5 @@ returns c =
     let x = c.play_frame in
     ap (λ (s : State). leaves (told x.result) (lent_pair (refilled (area a.size) s lent))) x.ensures.state
     ∙ read_settled (area a.size) (frame a.size a.bytes.now) x.result lent
-    ∙ sym (read_by_lem a.bytes.now a.size lent (sym c.size_fits.ensures ∙ c.if-not-size_fits.false) (sym c.holds.ensures ∙ c.if-not-holds.false) x.result (sym x.ensures.answer))
+    ∙ sym (read_by_lem a.bytes.now a.size lent (sym c.size_fits.ensures ∙ c.if-not-size_fits.false) (sym c.holds.ensures ∙ c.if-not-holds.false)
+    x.result (sym x.ensures.answer))

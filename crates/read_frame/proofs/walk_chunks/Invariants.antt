@@ -10,7 +10,8 @@ use Rattle.read_frame.proofs.walk_chunks.Given as goal
 abbrev pub invariant-loop-left : goal.invariant-loop-left
 invariant-loop-left l =
     (l.at ≤ length l.b) × (length l.picture ≡ length l.initial.picture) × (length l.palette ≡ length l.initial.palette)
-    × (seen l.pass (sub_chunks l.size l.b l.count 16) (state l.initial.picture l.initial.palette) ≡ seen l.pass (sub_chunks l.size l.b l.left l.at) (state l.picture l.palette))
+    × (seen l.pass (sub_chunks l.size l.b l.count 16) (state l.initial.picture l.initial.palette)
+    ≡ seen l.pass (sub_chunks l.size l.b l.left l.at) (state l.picture l.palette))
 
 abbrev pub decreases-loop-left : goal.decreases-loop-left
 decreases-loop-left l = l.left

@@ -1,4 +1,5 @@
--- The invariant: the rows that are left, on the picture as it is now, give what the body gives on the picture as it was; they lie above the height. The measure is their count.
+-- The invariant: the rows that are left, on the picture as it is now, give what the body gives on the picture as it was; they lie above the height.
+-- The measure is their count.
 use Rattle.read_lc.proofs.Laws.{lc_cut, lc_past, lc_open, rows_none, rows_on, rows_stopped, row_sound}
 use Rattle.walk.proofs.Laws.{VerdictIn, seen, seen_gives, seen_none}
 use Rattle.walk.specs.Walk.{Walk}
@@ -16,7 +17,9 @@ returns-then-body-lt4 c =
 pub returns-then-height-row : goal.returns-then-height-row
 returns-then-height-row c =
     let a = c.args in
-    seen_gives _ _ _ _ _ (seen_none a.pass _ a.picture.now _ (lc_past a.width a.height a.body.now _ _ c.if-body-lt4.false c.u16_at-row.ensures.value c.u16_at-left.ensures.value c.if-height-row.true))
+    seen_gives _ _ _ _ _
+    (seen_none a.pass _ a.picture.now _
+    (lc_past a.width a.height a.body.now _ _ c.if-body-lt4.false c.u16_at-row.ensures.value c.u16_at-left.ensures.value c.if-height-row.true))
 
 pub loop-left-init : goal.loop-left-init
 loop-left-init c =
@@ -37,7 +40,9 @@ pub returns-in-Fault : goal.returns-in-Fault
 returns-in-Fault c =
     let a = c.args in
     let l = c.loop-left in
-    seen_gives _ _ _ _ _ (l.invariant.3 ∙ rows_stopped a.width a.body.now a.pass l.picture c.walk_row.new.picture l.left l.row l.at c.loop-left-test.true c.walk_row.ensures.writes _ (sym c.walk_row.ensures.verdict ∙ c.in-Fault.is))
+    seen_gives _ _ _ _ _
+    (l.invariant.3 ∙ rows_stopped a.width a.body.now a.pass l.picture c.walk_row.new.picture l.left l.row l.at c.loop-left-test.true
+    c.walk_row.ensures.writes _ (sym c.walk_row.ensures.verdict ∙ c.in-Fault.is))
 
 pub overflow_add-row-in-Ends : goal.overflow_add-row-in-Ends
 overflow_add-row-in-Ends c = omega (arith, c.loop-left.invariant.1, c.loop-left-test.true)

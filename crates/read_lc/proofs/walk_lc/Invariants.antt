@@ -1,4 +1,5 @@
--- The invariant: the rows that are left, on the picture as it is now, give what the body gives on the picture as it was; they lie above the height. The measure is their count.
+-- The invariant: the rows that are left, on the picture as it is now, give what the body gives on the picture as it was; they lie above the height.
+-- The measure is their count.
 use Rattle.read_lc.specs.Lc.{rows, lc}
 use Rattle.walk.proofs.Laws.{seen}
 use lib.ListN.{length}

@@ -1,4 +1,5 @@
--- The invariant: the packets that are left, from here on, on the picture as it is now, give what the whole row gives on the picture as it was. A packet of one pair is one of type 1. The measure is their count.
+-- The invariant: the packets that are left, from here on, on the picture as it is now, give what the whole row gives on the picture as it was. A
+-- packet of one pair is one of type 1. The measure is their count.
 use mathlib.Core.List.{List}
 use mathlib.Core.Path.{ap, ap₂, ◌∙◌, sym, refl}
 use Prim.Native.Nat.{ℕ, ◌+◌, ◌-◌, ◌*◌}
@@ -42,7 +43,8 @@ loop-left-preserved-then-pair_at c =
       c.put_pair.auto.picture ∙ l.invariant.2,
       l.invariant.3
           ∙ packets_on a.unit a.width a.body.now Wet l.picture d l.left a.row l.at l.x c.loop-left-test.true _ _ _ _ (pair_whole _ _ _ _ _ p)
-          (c.put_pair.ensures ∙ ap₂ (λ (n : ℕ) (v : List ℕ). stored Wet l.picture (a.row * a.width + (l.x + n)) v) skip (sym (pair_pixels _ a.body.now (l.at + 2) _ p.pairs refl)))
+          (c.put_pair.ensures ∙ ap₂ (λ (n : ℕ) (v : List ℕ). stored Wet l.picture (a.row * a.width + (l.x + n)) v) skip
+          (sym (pair_pixels _ a.body.now (l.at + 2) _ p.pairs refl)))
           ∙ ap (λ (n : ℕ). seen Wet (packets a.unit a.width a.body.now (l.left - 1) a.row (l.at + 4) (l.x + n + 2)) d) (sym skip),
     )
 
@@ -50,7 +52,8 @@ pub returns-in-Fault : goal.returns-in-Fault
 returns-in-Fault c =
     let a = c.args in
     let l = c.loop-left in
-    seen_gives Wet _ _ _ _ (l.invariant.3 ∙ seen_none Wet _ l.picture _ (packets_stop _ _ _ _ _ _ _ c.loop-left-test.true _ (sym c.packet_at.ensures ∙ c.in-Fault.is)))
+    seen_gives Wet _ _ _ _
+    (l.invariant.3 ∙ seen_none Wet _ l.picture _ (packets_stop _ _ _ _ _ _ _ c.loop-left-test.true _ (sym c.packet_at.ensures ∙ c.in-Fault.is)))
 
 pub overflow_add-place-in-Pixels : goal.overflow_add-place-in-Pixels
 overflow_add-place-in-Pixels c =

@@ -28,7 +28,8 @@ copy-requires c =
     let a = c.args in
     let n = a.unit * c.wide.result in
     span_length a.body.now a.at (a.at + n) n (omega (arith, copied_bytes a.unit a.code c.wide.result c.wide.ensures.0 c.if-code-lt128.true)) (omega arith)
-    ∙ sym (span_length a.picture.now a.to (a.to + n) n (omega (arith, copied_pixels a.unit a.code c.wide.result c.wide.ensures.0 c.if-code-lt128.true)) (omega arith))
+    ∙ sym (span_length a.picture.now a.to (a.to + n) n
+    (omega (arith, copied_pixels a.unit a.code c.wide.result c.wide.ensures.0 c.if-code-lt128.true)) (omega arith))
 
 pub returns-then-code-lt128 : goal.returns-then-code-lt128
 returns-then-code-lt128 c =
@@ -59,8 +60,12 @@ pub repeat-requires : goal.repeat-requires
 repeat-requires c =
     let a = c.args in
     let n = 256 - c.wide-n.result in
-    let v = span_length a.body.now a.at (a.at + a.unit) a.unit (omega (arith, data_repeat a.unit a.code c.if-code-lt128.false)) (omega arith) in
-    (omega (arith, v), omega (arith, v), span_length a.picture.now a.to (a.to + a.unit * n) (a.unit * n) (omega (arith, repeated_pixels a.unit a.code c.wide-n.result c.wide-n.ensures.0 c.if-code-lt128.false)) (omega arith) ∙ ap (λ (k : ℕ). k * n) (sym v))
+    let v = span_length a.body.now a.at (a.at + a.unit) a.unit (omega (arith, data_repeat a.unit a.code c.if-code-lt128.false)) (omega arith) in (
+      omega (arith, v),
+      omega (arith, v),
+      span_length a.picture.now a.to (a.to + a.unit * n) (a.unit * n)
+          (omega (arith, repeated_pixels a.unit a.code c.wide-n.result c.wide-n.ensures.0 c.if-code-lt128.false)) (omega arith) ∙ ap (λ (k : ℕ). k * n) (sym v),
+    )
 
 pub returns : goal.returns
 returns c =

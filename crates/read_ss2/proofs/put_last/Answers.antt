@@ -32,4 +32,5 @@ returns-in-Set c =
     let wet = c.in-Wet.is in
     put_one a.picture.now at _ (omega (arith, c.requires.3 wet))
     ∙ stored_wet a.pass a.picture.now at _ wet
-    ∙ sym (ap (λ (l : LastPixel). wrote a.pass (last_first a.width a.row l (ends 0)).writes a.picture.now) c.in-Set.is ∙ wrote_one a.pass at (c.in-Set.pixel ∷ []) a.picture.now)
+    ∙ sym (ap (λ (l : LastPixel). wrote a.pass (last_first a.width a.row l (ends 0)).writes a.picture.now) c.in-Set.is
+    ∙ wrote_one a.pass at (c.in-Set.pixel ∷ []) a.picture.now)

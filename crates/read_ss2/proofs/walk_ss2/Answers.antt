@@ -1,4 +1,5 @@
--- The invariant: the lines that are left, from this row and offset on, on the picture as it is now, give what the body gives on the picture as it was. A skip goes down at least one row, a line counts one less: the measure is lines and rows left.
+-- The invariant: the lines that are left, from this row and offset on, on the picture as it is now, give what the body gives on the picture as it
+-- was. A skip goes down at least one row, a line counts one less: the measure is lines and rows left.
 use mathlib.Core.Path.{ap, ◌∙◌, sym, refl, subst}
 use native.Mathlib.Omega.{arith}
 use Rattle.words.proofs.Laws.{row_in}
@@ -14,14 +15,19 @@ returns-then-body-lt2 c =
 
 pub loop-left-init : goal.loop-left-init
 loop-left-init c =
-    let a = c.args in
-    (c.if-body-lt2.false, omega arith, refl, ap (λ (k : Walk). seen a.pass k a.picture.now) (ss2_open a.width a.height a.body.now _ c.if-body-lt2.false c.u16_at-left.ensures.value))
+    let a = c.args in (
+      c.if-body-lt2.false,
+      omega arith,
+      refl,
+      ap (λ (k : Walk). seen a.pass k a.picture.now) (ss2_open a.width a.height a.body.now _ c.if-body-lt2.false c.u16_at-left.ensures.value),
+    )
 
 pub returns-in-Fault : goal.returns-in-Fault
 returns-in-Fault c =
     let a = c.args in
     let l = c.loop-left in
-    seen_gives _ _ _ _ _ (l.invariant.3 ∙ seen_none a.pass _ l.picture _ (lines_stop a.width _ _ _ _ _ c.loop-left-test.true _ (sym c.line_at.ensures ∙ c.in-Fault.is)))
+    seen_gives _ _ _ _ _
+    (l.invariant.3 ∙ seen_none a.pass _ l.picture _ (lines_stop a.width _ _ _ _ _ c.loop-left-test.true _ (sym c.line_at.ensures ∙ c.in-Fault.is)))
 
 pub overflow_add-row : goal.overflow_add-row
 overflow_add-row c = omega (arith, (line_in _ _ _ _ _ (sym c.line_at.ensures ∙ c.in-Down.is)).1)
@@ -30,15 +36,26 @@ pub overflow_add-at : goal.overflow_add-at
 overflow_add-at c = omega (arith, (line_in _ _ _ _ _ (sym c.line_at.ensures ∙ c.in-Down.is)).0)
 
 pub loop-left-smaller-in-Down : goal.loop-left-smaller-in-Down
-loop-left-smaller-in-Down c = omega (arith, (line_in _ _ _ _ _ (sym c.line_at.ensures ∙ c.in-Down.is)).1, (line_down _ _ _ _ _ (sym c.line_at.ensures ∙ c.in-Down.is) (λ i. omega (arith, c.type_inv.body i))))
+loop-left-smaller-in-Down c = omega (
+  arith,
+  (line_in _ _ _ _ _ (sym c.line_at.ensures ∙ c.in-Down.is)).1,
+  (line_down _ _ _ _ _ (sym c.line_at.ensures ∙ c.in-Down.is) (λ i. omega (arith, c.type_inv.body i))),
+)
 
 pub loop-left-preserved-in-Down : goal.loop-left-preserved-in-Down
 loop-left-preserved-in-Down c =
     let a = c.args in
     let l = c.loop-left in
     let q = sym c.line_at.ensures ∙ c.in-Down.is in
-    let i = line_in _ _ _ _ _ q in
-    (i.0, omega (arith, i.1), l.invariant.2, l.invariant.3 ∙ ap (λ (k : Walk). seen a.pass k l.picture) (lines_down a.width _ _ _ _ _ c.loop-left-test.true _ q (line_down _ _ _ _ _ (sym c.line_at.ensures ∙ c.in-Down.is) (λ i. omega (arith, c.type_inv.body i))) i.1))
+    let i = line_in _ _ _ _ _ q in (
+      i.0,
+      omega (arith, i.1),
+      l.invariant.2,
+      l.invariant.3
+          ∙ ap (λ (k : Walk). seen a.pass k l.picture)
+          (lines_down a.width _ _ _ _ _ c.loop-left-test.true _ q
+          (line_down _ _ _ _ _ (sym c.line_at.ensures ∙ c.in-Down.is) (λ i. omega (arith, c.type_inv.body i))) i.1),
+    )
 
 pub walk_line-requires : goal.walk_line-requires
 walk_line-requires c =
@@ -54,7 +71,9 @@ returns-in-Fault-walk_line c =
     let l = c.loop-left in
     let q = sym c.line_at.ensures ∙ c.in-Row.is in
     let out = c.walk_line in
-    seen_gives _ _ _ _ _ (l.invariant.3 ∙ lines_stopped a.width a.height a.body.now l.left l.row l.at c.loop-left-test.true _ _ _ q (line_in _ _ _ _ _ q).1 a.pass l.picture out.new.picture out.ensures.writes _ (sym out.ensures.verdict ∙ c.in-Fault-walk_line.is))
+    seen_gives _ _ _ _ _
+    (l.invariant.3 ∙ lines_stopped a.width a.height a.body.now l.left l.row l.at c.loop-left-test.true _ _ _ q (line_in _ _ _ _ _ q).1 a.pass
+    l.picture out.new.picture out.ensures.writes _ (sym out.ensures.verdict ∙ c.in-Fault-walk_line.is))
 
 pub overflow_add-row-in-Ends : goal.overflow_add-row-in-Ends
 overflow_add-row-in-Ends c = omega (arith, (line_in _ _ _ _ _ (sym c.line_at.ensures ∙ c.in-Row.is)).1)
@@ -76,7 +95,8 @@ loop-left-preserved c =
       subst (VerdictIn a.body.now) v (line_ends _ _ _ _ _ _ i.0),
       omega (arith, i.1),
       out.auto.picture ∙ l.invariant.2,
-      l.invariant.3 ∙ lines_on a.width a.height a.body.now l.left l.row l.at c.loop-left-test.true _ _ _ q i.1 a.pass l.picture out.new.picture out.ensures.writes _ v,
+      l.invariant.3 ∙ lines_on a.width a.height a.body.now l.left l.row l.at c.loop-left-test.true _ _ _ q i.1 a.pass l.picture out.new.picture
+          out.ensures.writes _ v,
     )
 
 pub returns : goal.returns

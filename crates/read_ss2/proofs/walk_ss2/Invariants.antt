@@ -1,4 +1,5 @@
--- The invariant: the lines that are left, from this row and offset on, on the picture as it is now, give what the body gives on the picture as it was. A skip goes down at least one row, a line counts one less: the measure is lines and rows left.
+-- The invariant: the lines that are left, from this row and offset on, on the picture as it is now, give what the body gives on the picture as it
+-- was. A skip goes down at least one row, a line counts one less: the measure is lines and rows left.
 use mathlib.Core.Path.{◌≡◌}
 use Prim.Native.Nat.{◌≤◌, ◌-◌, ◌+◌}
 use lib.ListN.{length}

@@ -31,7 +31,8 @@ returns-then-bytes-lt-HEADER_BYTES c =
     let a = c.args in
     refused_none _ _ _ _ c.refused-then-bytes-lt-HEADER_BYTES.ensures c.no_reel-then-bytes-lt-HEADER_BYTES.ensures (lent_bytes a.bytes.now)
     ∙ sym (opening_short (size_of Fli a.width a.height) (opened_fli a.width a.height (jiffies a.delay)) a.bytes.now c.if-bytes-lt-HEADER_BYTES.true)
-    ∙ open_fli_is a.width a.height a.bytes.now true a.delay true (sym c.size_fits.ensures ∙ c.if-not-size_fits.false) (le-leb a.delay 65535 c.if-delay-gt65535.false)
+    ∙ open_fli_is a.width a.height a.bytes.now true a.delay true (sym c.size_fits.ensures ∙ c.if-not-size_fits.false)
+    (le-leb a.delay 65535 c.if-delay-gt65535.false)
 
 pub write_fli_header-requires : goal.write_fli_header-requires
 write_fli_header-requires c =
@@ -42,5 +43,8 @@ write_fli_header-requires c =
 pub returns : goal.returns
 returns c =
     let a = c.args in
-    opening_done (size_of Fli a.width a.height) (opened_fli a.width a.height (jiffies a.delay)) a.bytes.now (opened_fli_length a.width a.height (jiffies a.delay)) c.if-bytes-lt-HEADER_BYTES.false c.write_fli_header.new.out c.write_fli_header.ensures c.new_reel.result c.new_reel.ensures
-    ∙ open_fli_is a.width a.height a.bytes.now true a.delay true (sym c.size_fits.ensures ∙ c.if-not-size_fits.false) (le-leb a.delay 65535 c.if-delay-gt65535.false)
+    opening_done (size_of Fli a.width a.height) (opened_fli a.width a.height (jiffies a.delay)) a.bytes.now
+    (opened_fli_length a.width a.height (jiffies a.delay)) c.if-bytes-lt-HEADER_BYTES.false c.write_fli_header.new.out c.write_fli_header.ensures
+    c.new_reel.result c.new_reel.ensures
+    ∙ open_fli_is a.width a.height a.bytes.now true a.delay true (sym c.size_fits.ensures ∙ c.if-not-size_fits.false)
+    (le-leb a.delay 65535 c.if-delay-gt65535.false)

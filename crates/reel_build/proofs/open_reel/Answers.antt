@@ -34,5 +34,6 @@ write_header-requires c =
 pub returns : goal.returns
 returns c =
     let a = c.args in
-    opening_done (size_of Flc a.width a.height) (opened a.width a.height a.speed) a.bytes.now (opened_length a.width a.height a.speed) c.if-bytes-lt-HEADER_BYTES.false c.write_header.new.out c.write_header.ensures c.new_reel.result c.new_reel.ensures
+    opening_done (size_of Flc a.width a.height) (opened a.width a.height a.speed) a.bytes.now (opened_length a.width a.height a.speed)
+    c.if-bytes-lt-HEADER_BYTES.false c.write_header.new.out c.write_header.ensures c.new_reel.result c.new_reel.ensures
     ∙ open_is a.width a.height a.bytes.now true a.speed (sym c.size_fits.ensures ∙ c.if-not-size_fits.false)

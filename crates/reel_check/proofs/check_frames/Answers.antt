@@ -1,4 +1,5 @@
--- `check_frames` meets its contract: a run that stopped gives its refusal; one that didn't is decided by comparing the pairs, which hold the ring's state and frame 1's.
+-- `check_frames` meets its contract: a run that stopped gives its refusal; one that didn't is decided by comparing the pairs, which hold the ring's
+-- state and frame 1's.
 use Rattle.chunks.specs.declared.Layout.TheVariants.{Loose}
 use Rattle.state.specs.State.{state}
 use Rattle.reel_play.specs.Play.{shown, play_all}

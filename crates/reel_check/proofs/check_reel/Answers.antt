@@ -1,4 +1,5 @@
--- `check_reel` meets its contract: the checks stand in the order of the paper, and the pairs are lent on, cut to their exact lengths, only where all of them held.
+-- `check_reel` meets its contract: the checks stand in the order of the paper, and the pairs are lent on, cut to their exact lengths, only where all
+-- of them held.
 use mathlib.Core.Path.{◌∙◌, sym}
 use Prim.Native.Nat.{◌-◌}
 use native.Mathlib.Omega.{arith}
@@ -17,12 +18,14 @@ overflow_mul-n c = omega (arith, (size_in_lem c.in-Reel.picture (head_in _ _ _ (
 pub returns-then-not-holds : goal.returns-then-not-holds
 returns-then-not-holds c =
     let a = c.args in
-    sym (check_short a.bytes.now (state a.first_picture.now a.first_palette.now) (state a.second_picture.now a.second_palette.now) _ _ _ _ (sym c.head_of.ensures ∙ c.in-Reel.is) (sym c.holds.ensures ∙ c.if-not-holds.true))
+    sym (check_short a.bytes.now (state a.first_picture.now a.first_palette.now) (state a.second_picture.now a.second_palette.now) _ _ _ _
+    (sym c.head_of.ensures ∙ c.in-Reel.is) (sym c.holds.ensures ∙ c.if-not-holds.true))
 
 pub returns-then-not-holds-2 : goal.returns-then-not-holds-2
 returns-then-not-holds-2 c =
     let a = c.args in
-    sym (check_second_short a.bytes.now (state a.first_picture.now a.first_palette.now) (state a.second_picture.now a.second_palette.now) _ _ _ _ (sym c.head_of.ensures ∙ c.in-Reel.is) (sym c.holds.ensures ∙ c.if-not-holds.false) (sym c.holds-in-Reel.ensures ∙ c.if-not-holds-2.true))
+    sym (check_second_short a.bytes.now (state a.first_picture.now a.first_palette.now) (state a.second_picture.now a.second_palette.now) _ _ _ _
+    (sym c.head_of.ensures ∙ c.in-Reel.is) (sym c.holds.ensures ∙ c.if-not-holds.false) (sym c.holds-in-Reel.ensures ∙ c.if-not-holds-2.true))
 
 pub slice_bounds-check_frames-end : goal.slice_bounds-check_frames-end
 slice_bounds-check_frames-end c =
@@ -51,17 +54,21 @@ check_frames-requires c =
     let size = c.in-Reel.size in (
       omega (arith, i.least, span_length a.bytes.now 0 size size i.most (omega arith)),
       front_exact c.in-Reel.picture (state a.first_picture.now a.first_palette.now) i.sized (n - 0) (omega arith) (sym c.holds.ensures ∙ c.if-not-holds.false),
-      front_exact c.in-Reel.picture (state a.second_picture.now a.second_palette.now) i.sized (n - 0) (omega arith) (sym c.holds-in-Reel.ensures ∙ c.if-not-holds-2.false),
+      front_exact c.in-Reel.picture (state a.second_picture.now a.second_palette.now) i.sized (n - 0) (omega arith)
+          (sym c.holds-in-Reel.ensures ∙ c.if-not-holds-2.false),
     )
 
 pub returns-in-Fault : goal.returns-in-Fault
 returns-in-Fault c =
     let a = c.args in
-    sym (check_fault a.bytes.now (state a.first_picture.now a.first_palette.now) (state a.second_picture.now a.second_palette.now) _ (sym c.head_of.ensures ∙ c.in-Fault.is))
+    sym (check_fault a.bytes.now (state a.first_picture.now a.first_palette.now) (state a.second_picture.now a.second_palette.now) _
+    (sym c.head_of.ensures ∙ c.in-Fault.is))
 
 pub returns-else-not-holds-2 : goal.returns-else-not-holds-2
 returns-else-not-holds-2 c =
     let a = c.args in
     let f = c.check_frames in
-    check_laid a.bytes.now (state a.first_picture.now a.first_palette.now) (state a.second_picture.now a.second_palette.now) c.in-Reel.picture c.in-Reel.frames c.in-Reel.size c.in-Reel.speed (sym c.head_of.ensures ∙ c.in-Reel.is) (sym c.holds.ensures ∙ c.if-not-holds.false) (sym c.holds-in-Reel.ensures ∙ c.if-not-holds-2.false)
+    check_laid a.bytes.now (state a.first_picture.now a.first_palette.now) (state a.second_picture.now a.second_palette.now) c.in-Reel.picture
+    c.in-Reel.frames c.in-Reel.size c.in-Reel.speed (sym c.head_of.ensures ∙ c.in-Reel.is) (sym c.holds.ensures ∙ c.if-not-holds.false)
+    (sym c.holds-in-Reel.ensures ∙ c.if-not-holds-2.false)
     (area c.in-Reel.picture - 0) (c.in-Reel.size - 0) (omega arith) (omega arith) f.result _ _ f.ensures.answer f.ensures.first f.ensures.second

@@ -18,8 +18,10 @@ use Rattle.reel_close.proofs.close_frames.Goals as goal
 pub returns-then-not-end_ok : goal.returns-then-not-end_ok
 returns-then-not-end_ok c =
     let a = c.args in
-    own_told a.reel a.bytes.now (shown (Stopped Cut 0) (state c.clear.new.picture c.clear.new.palette) (state c.clear-then-not-end_ok.new.picture c.clear-then-not-end_ok.new.palette))
-    (own_record a.reel a.bytes.now (sym c.end_ok.ensures ∙ c.if-not-end_ok.true) ∙ ap₂ (λ (s t : State). shown (Stopped Cut 0) s t) (sym c.clear.ensures) (sym c.clear-then-not-end_ok.ensures))
+    own_told a.reel a.bytes.now
+    (shown (Stopped Cut 0) (state c.clear.new.picture c.clear.new.palette) (state c.clear-then-not-end_ok.new.picture c.clear-then-not-end_ok.new.palette))
+    (own_record a.reel a.bytes.now (sym c.end_ok.ensures ∙ c.if-not-end_ok.true)
+    ∙ ap₂ (λ (s t : State). shown (Stopped Cut 0) s t) (sym c.clear.ensures) (sym c.clear-then-not-end_ok.ensures))
     _ (refused_keeps _ _ _ _ c.refused.ensures (lent_bytes a.bytes.now))
 
 pub slice_bounds-play_all-end : goal.slice_bounds-play_all-end
@@ -37,8 +39,11 @@ returns-then-next-end c =
     let p = c.play_all in
     let s = state p.new.picture p.new.palette in
     let t = state p.new.picture2 p.new.palette2 in
-    own_told a.reel a.bytes.now (shown p.result s t) (own_played a.reel a.bytes.now (sym c.end_ok.ensures ∙ c.if-not-end_ok.false) (a.reel.end - 0) (omega arith) _ p.ensures)
-    _ (refused_keeps _ _ _ _ c.refused-then-next-end.ensures (lent_bytes a.bytes.now) ∙ frames_early a.reel a.bytes.now p.result s t _ _ c.in-To.is (omega (arith, (end_in a.reel.end (length a.bytes.now) (sym c.end_ok.ensures ∙ c.if-not-end_ok.false)).0)))
+    own_told a.reel a.bytes.now (shown p.result s t)
+    (own_played a.reel a.bytes.now (sym c.end_ok.ensures ∙ c.if-not-end_ok.false) (a.reel.end - 0) (omega arith) _ p.ensures)
+    _ (refused_keeps _ _ _ _ c.refused-then-next-end.ensures (lent_bytes a.bytes.now)
+    ∙ frames_early a.reel a.bytes.now p.result s t _ _ c.in-To.is
+    (omega (arith, (end_in a.reel.end (length a.bytes.now) (sym c.end_ok.ensures ∙ c.if-not-end_ok.false)).0)))
 
 pub put_ring-requires : goal.put_ring-requires
 put_ring-requires c =
@@ -46,7 +51,8 @@ put_ring-requires c =
     let p = c.play_all in
     let i = end_in a.reel.end (length a.bytes.now) (sym c.end_ok.ensures ∙ c.if-not-end_ok.false) in
     let l = length-take-le (a.reel.end - 0) a.bytes.now (omega (arith, i.1)) in
-    let long = all_long Packed (a.reel.frames - 1) a.reel.size (take (a.reel.end - 0) a.bytes.now) _ _ (omega (arith, i.0, l)) (ap (λ (x : Shown). x.result) (sym p.ensures) ∙ c.in-To.is) in (
+    let long = all_long Packed (a.reel.frames - 1) a.reel.size (take (a.reel.end - 0) a.bytes.now) _ _ (omega (arith, i.0, l))
+    (ap (λ (x : Shown). x.result) (sym p.ensures) ∙ c.in-To.is) in (
       omega (arith, long, l),
       i.1,
       c.requires.1,
@@ -60,7 +66,8 @@ returns-in-Stopped c =
     let p = c.play_all in
     let s = state p.new.picture p.new.palette in
     let t = state p.new.picture2 p.new.palette2 in
-    own_told a.reel a.bytes.now (shown p.result s t) (own_played a.reel a.bytes.now (sym c.end_ok.ensures ∙ c.if-not-end_ok.false) (a.reel.end - 0) (omega arith) _ p.ensures)
+    own_told a.reel a.bytes.now (shown p.result s t)
+    (own_played a.reel a.bytes.now (sym c.end_ok.ensures ∙ c.if-not-end_ok.false) (a.reel.end - 0) (omega arith) _ p.ensures)
     _ (refused_keeps _ _ _ _ c.refused-in-Stopped.ensures (lent_bytes a.bytes.now) ∙ frames_stopped a.reel a.bytes.now p.result s t _ _ c.in-Stopped.is)
 
 pub returns-else-next-end : goal.returns-else-next-end
@@ -69,5 +76,6 @@ returns-else-next-end c =
     let p = c.play_all in
     let s = state p.new.picture p.new.palette in
     let t = state p.new.picture2 p.new.palette2 in
-    own_told a.reel a.bytes.now (shown p.result s t) (own_played a.reel a.bytes.now (sym c.end_ok.ensures ∙ c.if-not-end_ok.false) (a.reel.end - 0) (omega arith) _ p.ensures)
+    own_told a.reel a.bytes.now (shown p.result s t)
+    (own_played a.reel a.bytes.now (sym c.end_ok.ensures ∙ c.if-not-end_ok.false) (a.reel.end - 0) (omega arith) _ p.ensures)
     _ (c.put_ring.ensures ∙ frames_ringed a.reel a.bytes.now p.result s t _ _ c.in-To.is c.if-next-end.false)

@@ -9,11 +9,18 @@ use Rattle.reel_close.proofs.put_ring.Goals as goal
 
 pub returns-in-Refused : goal.returns-in-Refused
 returns-in-Refused c =
+    let a = c.args in
+    let lent_one = state a.one_picture.now a.one_palette.now in
+    let lent_last = state a.last_picture.now a.last_palette.now in
     let p = c.append in
     refused_keeps _ _ _ _ c.refused.ensures (lent_bytes p.new.bytes)
-    ∙ ring_refused c.args.reel (house_frame c.args.reel.size (state c.args.last_picture.now c.args.last_palette.now) (state c.args.one_picture.now c.args.one_palette.now)) c.args.bytes.now p.result p.new.bytes p.ensures _ _ c.in-Refused.is
+    ∙ ring_refused a.reel (house_frame a.reel.size lent_last lent_one) a.bytes.now p.result p.new.bytes p.ensures _ _ c.in-Refused.is
 
 pub returns-in-Done : goal.returns-in-Done
 returns-in-Done c =
+    let a = c.args in
+    let lent_one = state a.one_picture.now a.one_palette.now in
+    let lent_last = state a.last_picture.now a.last_palette.now in
     let p = c.append in
-    ring_done c.args.reel (house_frame c.args.reel.size (state c.args.last_picture.now c.args.last_palette.now) (state c.args.one_picture.now c.args.one_palette.now)) c.args.bytes.now p.result p.new.bytes p.ensures _ c.in-Done.is c.second_at-second.result _ c.second_at-second.ensures c.close_header.ensures
+    ring_done a.reel (house_frame a.reel.size lent_last lent_one) a.bytes.now p.result p.new.bytes p.ensures _ c.in-Done.is c.second_at-second.result
+    _ c.second_at-second.ensures c.close_header.ensures

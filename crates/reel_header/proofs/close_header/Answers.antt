@@ -10,4 +10,5 @@ returns-in-Fli c =
 pub returns-in-Flc : goal.returns-in-Flc
 returns-in-Flc c =
     let a = c.args in
-    rw c.in-Flc.is (closed_flc a.size a.frames a.second a.bytes.now c.put_u32.new.out c.put_u16.new.out c.close_flc.new.bytes c.put_u32.ensures c.put_u16.ensures c.close_flc.ensures)
+    rw c.in-Flc.is (closed_flc a.size a.frames a.second a.bytes.now c.put_u32.new.out c.put_u16.new.out c.close_flc.new.bytes c.put_u32.ensures
+    c.put_u16.ensures c.close_flc.ensures)

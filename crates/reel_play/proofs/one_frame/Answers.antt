@@ -15,13 +15,19 @@ use Rattle.reel_play.proofs.Laws.{one_fault, one_refused, one_played}
 use Rattle.reel_play.proofs.one_frame.Goals as goal
 
 pub slice_bounds-play_frame-count : goal.slice_bounds-play_frame-count
-slice_bounds-play_frame-count c = omega (arith, (next_in c.args.layout c.args.b.now c.args.at _ (sym c.step_at.ensures ∙ c.in-Frame.is)).1)
+slice_bounds-play_frame-count c =
+    let a = c.args in
+    omega (arith, (next_in a.layout a.b.now a.at _ (sym c.step_at.ensures ∙ c.in-Frame.is)).1)
 
 pub slice_bounds-play_frame-start : goal.slice_bounds-play_frame-start
-slice_bounds-play_frame-start c = omega (arith, (next_in c.args.layout c.args.b.now c.args.at _ (sym c.step_at.ensures ∙ c.in-Frame.is)).1)
+slice_bounds-play_frame-start c =
+    let a = c.args in
+    omega (arith, (next_in a.layout a.b.now a.at _ (sym c.step_at.ensures ∙ c.in-Frame.is)).1)
 
 pub slice_bounds-play_frame-end : goal.slice_bounds-play_frame-end
-slice_bounds-play_frame-end c = (next_in c.args.layout c.args.b.now c.args.at _ (sym c.step_at.ensures ∙ c.in-Frame.is)).2
+slice_bounds-play_frame-end c =
+    let a = c.args in
+    (next_in a.layout a.b.now a.at _ (sym c.step_at.ensures ∙ c.in-Frame.is)).2
 
 pub overflow_add-result : goal.overflow_add-result
 overflow_add-result c =
@@ -50,5 +56,6 @@ returns-in-Done c =
     let a = c.args in
     let x = c.play_frame in
     let s = state a.picture.now a.palette.now in
-    ap (ran (To c.in-Frame.from c.in-Frame.end)) (x.ensures.state ∙ settled_done (frame a.size (part a.b.now c.in-Frame.from c.in-Frame.end)) x.result s c.in-Done.is)
+    ap (ran (To c.in-Frame.from c.in-Frame.end))
+    (x.ensures.state ∙ settled_done (frame a.size (part a.b.now c.in-Frame.from c.in-Frame.end)) x.result s c.in-Done.is)
     ∙ sym (one_played a.layout a.size a.b.now a.at s _ _ (sym c.step_at.ensures ∙ c.in-Frame.is) (sym x.ensures.answer ∙ c.in-Done.is))

@@ -13,7 +13,10 @@ pub play_frames-requires : goal.play_frames-requires
 play_frames-requires c =
     let a = c.args in
     let p = c.play_first in (
-      (one_in a.layout a.size a.b.now 128 (blank (area a.size)) c.requires.0 _ (ap (λ (x : Progress). x.result) (let a = c.args in let p = c.play_first in one_ran a.layout a.size a.b.now 128 (blank (area a.size)) p.result _ (state p.new.picture p.new.palette) p.ensures.first c.in-To.is))).2,
+      (one_in a.layout a.size a.b.now 128 (blank (area a.size)) c.requires.0 _
+          (ap (λ (x : Progress). x.result)
+          (let a = c.args in let p = c.play_first in
+          one_ran a.layout a.size a.b.now 128 (blank (area a.size)) p.result _ (state p.new.picture p.new.palette) p.ensures.first c.in-To.is))).2,
       exact_kept a.size (state a.picture.now a.palette.now) c.requires.1 _ _ p.auto.picture p.auto.palette,
     )
 
@@ -23,7 +26,8 @@ returns-in-Stopped c =
     let p = c.play_first in
     let t = state p.new.picture p.new.palette in
     ap₂ (λ (x y : List ℕ). shown (Stopped c.in-Stopped.e c.in-Stopped.place) t (state x y)) p.ensures.picture p.ensures.palette
-    ∙ sym (all_stopped a.layout a.more a.size a.b.now t _ _ (one_ran a.layout a.size a.b.now 128 (blank (area a.size)) p.result _ t p.ensures.first c.in-Stopped.is))
+    ∙ sym (all_stopped a.layout a.more a.size a.b.now t _ _
+    (one_ran a.layout a.size a.b.now 128 (blank (area a.size)) p.result _ t p.ensures.first c.in-Stopped.is))
 
 pub returns-in-To : goal.returns-in-To
 returns-in-To c =
@@ -31,4 +35,6 @@ returns-in-To c =
     let p = c.play_first in
     let f = c.play_frames in
     ap₂ (λ (x y : List ℕ). shown f.result (state f.new.picture f.new.palette) (state x y)) p.ensures.picture p.ensures.palette
-    ∙ sym (all_more a.layout a.more a.size a.b.now (state p.new.picture p.new.palette) _ _ (let a = c.args in let p = c.play_first in one_ran a.layout a.size a.b.now 128 (blank (area a.size)) p.result _ (state p.new.picture p.new.palette) p.ensures.first c.in-To.is) _ f.ensures)
+    ∙ sym (all_more a.layout a.more a.size a.b.now (state p.new.picture p.new.palette) _ _
+    (let a = c.args in let p = c.play_first in
+    one_ran a.layout a.size a.b.now 128 (blank (area a.size)) p.result _ (state p.new.picture p.new.palette) p.ensures.first c.in-To.is) _ f.ensures)

@@ -24,16 +24,22 @@ returns-in-Stopped c =
     let p = c.one_frame in
     let s = state l.picture l.palette in
     let t = state p.new.picture p.new.palette in
-    sym (l.invariant.2 ∙ frames_stopped a.layout a.size a.b.now l.left l.last l.at s c.loop-left-test.true t _ _ (one_ran a.layout a.size a.b.now l.at s p.result _ t p.ensures c.in-Stopped.is))
+    sym (l.invariant.2 ∙ frames_stopped a.layout a.size a.b.now l.left l.last l.at s c.loop-left-test.true t _ _
+    (one_ran a.layout a.size a.b.now l.at s p.result _ t p.ensures c.in-Stopped.is))
 
 pub loop-left-preserved : goal.loop-left-preserved
 loop-left-preserved c =
     let a = c.args in
     let l = c.loop-left in
     let p = c.one_frame in (
-      (one_in a.layout a.size a.b.now l.at (state l.picture l.palette) l.invariant.0 _ (ap (λ (x : Progress). x.result) (let a = c.args in let l = c.loop-left in let p = c.one_frame in one_ran a.layout a.size a.b.now l.at (state l.picture l.palette) p.result _ (state p.new.picture p.new.palette) p.ensures c.in-To.is))).2,
+      (one_in a.layout a.size a.b.now l.at (state l.picture l.palette) l.invariant.0 _
+          (ap (λ (x : Progress). x.result)
+          (let a = c.args in let l = c.loop-left in let p = c.one_frame in
+          one_ran a.layout a.size a.b.now l.at (state l.picture l.palette) p.result _ (state p.new.picture p.new.palette) p.ensures c.in-To.is))).2,
       exact_kept a.size (state l.picture l.palette) l.invariant.1 _ _ p.auto.picture p.auto.palette,
-      l.invariant.2 ∙ frames_more a.layout a.size a.b.now l.left l.last l.at (state l.picture l.palette) c.loop-left-test.true _ _ _ (let a = c.args in let l = c.loop-left in let p = c.one_frame in one_ran a.layout a.size a.b.now l.at (state l.picture l.palette) p.result _ (state p.new.picture p.new.palette) p.ensures c.in-To.is),
+      l.invariant.2 ∙ frames_more a.layout a.size a.b.now l.left l.last l.at (state l.picture l.palette) c.loop-left-test.true _ _ _
+          (let a = c.args in let l = c.loop-left in let p = c.one_frame in
+          one_ran a.layout a.size a.b.now l.at (state l.picture l.palette) p.result _ (state p.new.picture p.new.palette) p.ensures c.in-To.is),
     )
 
 pub shape_of-picture : goal.shape_of-picture

@@ -9,7 +9,8 @@ use Rattle.reel_play.proofs.play_frames.Given as goal
 abbrev pub invariant-loop-left : goal.invariant-loop-left
 invariant-loop-left l =
     (l.at ≤ length l.b) × Exact l.size (state l.picture l.palette)
-    × (frames l.layout l.size l.b l.count l.before l.start (state l.initial.picture l.initial.palette) ≡ frames l.layout l.size l.b l.left l.last l.at (state l.picture l.palette))
+    × (frames l.layout l.size l.b l.count l.before l.start (state l.initial.picture l.initial.palette)
+    ≡ frames l.layout l.size l.b l.left l.last l.at (state l.picture l.palette))
 
 abbrev pub decreases-loop-left : goal.decreases-loop-left
 decreases-loop-left l = l.left

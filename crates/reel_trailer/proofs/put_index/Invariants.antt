@@ -1,4 +1,5 @@
--- `put_index` meets its contract. The invariant: the whole index stored at the front of the bytes as found is the rest of the index stored behind the entries that stand there.
+-- `put_index` meets its contract. The invariant: the whole index stored at the front of the bytes as found is the rest of the index stored behind the
+-- entries that stand there.
 use mathlib.Core.Path.{◌≡◌}
 use Prim.Native.Nat.{◌≤◌, ◌+◌, ◌*◌}
 use lib.ListN.{length}

@@ -12,9 +12,12 @@ use Rattle.reel_trailer.proofs.same_trailer.Goals as goal
 pub returns-then-rest-n : goal.returns-then-rest-n
 returns-then-rest-n c =
     let a = c.args in
-    sym (same_other a.rest.now (trailer_of (top_frames a.b.now a.count HEADER_BYTES).offsets) (λ e. c.if-rest-n.true (e ∙ trailer_many a.b.now a.count c.requires.met)))
+    sym (same_other a.rest.now (trailer_of (top_frames a.b.now a.count HEADER_BYTES).offsets)
+    (λ e. c.if-rest-n.true (e ∙ trailer_many a.b.now a.count c.requires.met)))
 
 pub returns : goal.returns
 returns c =
     let a = c.args in
-    c.same_bytes.ensures ∙ ap (same a.rest.now) (padded_front (trailer_of (top_frames a.b.now a.count HEADER_BYTES).offsets) c.trailer_of-trailer.result (4 * a.count + 8 - 0) c.trailer_of-trailer.ensures (trailer_many a.b.now a.count c.requires.met ∙ omega arith))
+    c.same_bytes.ensures ∙ ap (same a.rest.now)
+    (padded_front (trailer_of (top_frames a.b.now a.count HEADER_BYTES).offsets) c.trailer_of-trailer.result (4 * a.count + 8 - 0)
+    c.trailer_of-trailer.ensures (trailer_many a.b.now a.count c.requires.met ∙ omega arith))

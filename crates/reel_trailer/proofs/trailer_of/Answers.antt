@@ -11,21 +11,22 @@ pub slice_bounds-out-end-2 : goal.slice_bounds-out-end-2
 slice_bounds-out-end-2 c = let l = back_length _ c.put_index.new.out 0 (4 * c.args.count) (omega arith) (omega arith) c.put_index.auto.out in omega arith
 
 pub slice_bounds-out-end-3 : goal.slice_bounds-out-end-3
-slice_bounds-out-end-3 c = let l = let at = 4 * c.args.count in let l = (back_length _ c.put_index.new.out 0 (4 * c.args.count) (omega arith) (omega arith) c.put_index.auto.out) in back_length _ c.put_u32.new.out at (at + 4) (omega arith) (omega arith) c.put_u32.auto.out ∙ l in omega arith
+slice_bounds-out-end-3 c = let l = let at = 4 * c.args.count in let l =
+    (back_length _ c.put_index.new.out 0 (4 * c.args.count) (omega arith) (omega arith) c.put_index.auto.out) in
+    back_length _ c.put_u32.new.out at (at + 4) (omega arith) (omega arith) c.put_u32.auto.out ∙ l in omega arith
 
 pub slice_bounds-out-end-4 : goal.slice_bounds-out-end-4
 slice_bounds-out-end-4 c =
-    let at = 4 * c.args.count in
-    let l = let at = 4 * c.args.count in let l = (back_length _ c.put_index.new.out 0 (4 * c.args.count) (omega arith) (omega arith) c.put_index.auto.out) in back_length _ c.put_u32.new.out at (at + 4) (omega arith) (omega arith) c.put_u32.auto.out ∙ l in
+    let a = c.args in
+    let at = 4 * a.count in
+    let l = let at = 4 * a.count in let l = (back_length _ c.put_index.new.out 0 (4 * a.count) (omega arith) (omega arith) c.put_index.auto.out) in
+    back_length _ c.put_u32.new.out at (at + 4) (omega arith) (omega arith) c.put_u32.auto.out ∙ l in
     let l₃ = back_length _ c.put_u16.new.out (at + 4) (at + 6) (omega arith) (omega arith) c.put_u16.auto.out in
     omega arith
 
 pub returns : goal.returns
 returns c =
-    let third = c in
-    let second = third in
-    let first = second in
-    let z = first.zeros-out in
-    let a = first in
-    trailer_stored _ a.args.count z.result first.put_index.new.out second.put_u32.new.out third.put_u16.new.out c.put_u16-2.new.out
-    (found_many _ _ HEADER_BYTES a.requires.met) a.requires.few z.ensures first.put_index.ensures second.put_u32.ensures third.put_u16.ensures c.put_u16-2.ensures
+    let z = c.zeros-out in
+    let a = c.args in
+    trailer_stored _ a.count z.result c.put_index.new.out c.put_u32.new.out c.put_u16.new.out c.put_u16-2.new.out
+    (found_many _ _ HEADER_BYTES c.requires.met) c.requires.few z.ensures c.put_index.ensures c.put_u32.ensures c.put_u16.ensures c.put_u16-2.ensures

@@ -1,4 +1,5 @@
--- `write_trailer` meets its contract: the header and the frame chunks are walked first, room is asked for last, and the part behind the size comes back as the trailer.
+-- `write_trailer` meets its contract: the header and the frame chunks are walked first, room is asked for last, and the part behind the size comes
+-- back as the trailer.
 use mathlib.Core.Path.{◌∙◌, sym}
 use Prim.Native.Nat.{◌+◌, ◌*◌, ◌-◌}
 use native.Mathlib.Omega.{arith}
@@ -26,11 +27,17 @@ overflow_sub-bytes c = (head_in _ _ _ (sym c.head_of.ensures ∙ c.in-Reel.is)).
 
 pub returns-then-bytes-size : goal.returns-then-bytes-size
 returns-then-bytes-size c =
-    sym (wrote_short _ _ _ (walk_to _ _ _ _ _ (sym c.head_of.ensures ∙ c.in-Reel.is) (c.in-Reel.size - 0) (c.in-Reel.frames + 1) (omega arith) (omega arith) _ (sym c.walk_frames.ensures ∙ c.in-End.is)) _ (trailer_many _ _ (walked_in _ _ _ _ _ (sym c.head_of.ensures ∙ c.in-Reel.is) (c.in-Reel.size - 0) (c.in-Reel.frames + 1) (omega arith) (omega arith) _ (sym c.walk_frames.ensures ∙ c.in-End.is)).met)
+    sym (wrote_short _ _ _
+    (walk_to _ _ _ _ _ (sym c.head_of.ensures ∙ c.in-Reel.is) (c.in-Reel.size - 0) (c.in-Reel.frames + 1) (omega arith) (omega arith) _
+    (sym c.walk_frames.ensures ∙ c.in-End.is)) _
+    (trailer_many _ _ (walked_in _ _ _ _ _ (sym c.head_of.ensures ∙ c.in-Reel.is) (c.in-Reel.size - 0) (c.in-Reel.frames + 1) (omega arith)
+    (omega arith) _ (sym c.walk_frames.ensures ∙ c.in-End.is)).met)
     (omega (arith, (head_in _ _ _ (sym c.head_of.ensures ∙ c.in-Reel.is)).most, c.if-bytes-size.true)))
 
 pub trailer_of-trailer-requires : goal.trailer_of-trailer-requires
-trailer_of-trailer-requires c = (walked_in _ _ _ _ _ (sym c.head_of.ensures ∙ c.in-Reel.is) (c.in-Reel.size - 0) (c.in-Reel.frames + 1) (omega arith) (omega arith) _ (sym c.walk_frames.ensures ∙ c.in-End.is))
+trailer_of-trailer-requires c =
+    (walked_in _ _ _ _ _ (sym c.head_of.ensures ∙ c.in-Reel.is) (c.in-Reel.size - 0) (c.in-Reel.frames + 1) (omega arith) (omega arith) _
+    (sym c.walk_frames.ensures ∙ c.in-End.is))
 
 pub slice_bounds-copy-end-in-End : goal.slice_bounds-copy-end-in-End
 slice_bounds-copy-end-in-End c = omega (arith, (head_in _ _ _ (sym c.head_of.ensures ∙ c.in-Reel.is)).few_frames)
@@ -40,7 +47,9 @@ returns-in-Fault c = sym (wrote_refused _ _ 0 (walk_fault _ _ (sym c.head_of.ens
 
 pub returns-in-Fault-walk_frames : goal.returns-in-Fault-walk_frames
 returns-in-Fault-walk_frames c =
-    sym (wrote_refused _ _ _ (walk_to _ _ _ _ _ (sym c.head_of.ensures ∙ c.in-Reel.is) (c.in-Reel.size - 0) (c.in-Reel.frames + 1) (omega arith) (omega arith) _ (sym c.walk_frames.ensures ∙ c.in-Fault-walk_frames.is)))
+    sym (wrote_refused _ _ _
+    (walk_to _ _ _ _ _ (sym c.head_of.ensures ∙ c.in-Reel.is) (c.in-Reel.size - 0) (c.in-Reel.frames + 1) (omega arith) (omega arith) _
+    (sym c.walk_frames.ensures ∙ c.in-Fault-walk_frames.is)))
 
 pub returns-else-bytes-size : goal.returns-else-bytes-size
 returns-else-bytes-size c =
@@ -49,4 +58,5 @@ returns-else-bytes-size c =
     let walked = sym c.walk_frames.ensures ∙ c.in-End.is in
     wrote_back _ _ _ (walk_to _ _ _ _ _ headed (c.in-Reel.size - 0) m (omega arith) (omega arith) _ walked) (4 * m + 8)
     (trailer_many _ m (walked_in _ _ _ _ _ headed (c.in-Reel.size - 0) m (omega arith) (omega arith) _ walked).met)
-    (omega (arith, (head_in _ _ _ headed).most, c.if-bytes-size.false)) c.copy.new.dst c.trailer_of-trailer.result (4 * m + 8 - 0) (omega arith) c.trailer_of-trailer.ensures c.copy.ensures
+    (omega (arith, (head_in _ _ _ headed).most, c.if-bytes-size.false)) c.copy.new.dst c.trailer_of-trailer.result (4 * m + 8 - 0) (omega arith)
+    c.trailer_of-trailer.ensures c.copy.ensures
