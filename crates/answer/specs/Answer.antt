@@ -1,11 +1,8 @@
 -- Document 01, "Refusal numbers": each answer is done, or a number with a place.
-use Rattle.std.specs.Prelude.{ℕ, List, [], ◌∷◌}
+use Rattle.std.specs.Prelude.{ℕ, List, [], ◌∷◌, Result, Ok, Err}
 use Rattle.answer.specs.declared.Refusal.{Refusal}
 use Rattle.answer.specs.declared.Refusal.TheVariants.{ShortSlice, BadSize, NoRoom, Cut, WrongType, SmallSize, BodyEnds, ZeroCount, PastWidth, PastHeight, BadWord, PastPalette, OverLevel, BadHeader, FewFrames, BadRing, BadTrailer, WrongTime, SpareBytes, NotInFli}
-use Rattle.answer.specs.declared.Answer.{Answer}
-use Rattle.answer.specs.declared.Answer.TheVariants.{Done, Refused}
-use Rattle.answer.specs.declared.Written.{Written}
-use Rattle.answer.specs.declared.Written.TheVariants as written
+use Rattle.answer.specs.declared.Refused.{Refused}
 
 -- the paper's number of each refusal
 abbrev pub number : Refusal → ℕ
@@ -35,12 +32,29 @@ pub data Said : Type 0 where
   done : List ℕ → Said
   refused : ℕ → ℕ → Said
 
+-- a refusal at a place
+abbrev pub refused_at : Refusal → ℕ → Refused
+refused_at e place = record { 0 = e; 1 = place }
+
+-- what was refused without a place, with its place
+abbrev pub placed : {T : Type 0} → ℕ → Result T Refusal → Result T Refused
+placed place (Ok x) = Ok x
+placed place (Err e) = Err (refused_at e place)
+
+-- Done, or a refusal with its place.
+abbrev pub Answer : Type 0
+Answer = Result Unit Refused
+
+-- Done with so many bytes written, or a refusal with its place.
+abbrev pub Written : Type 0
+Written = Result ℕ Refused
+
 -- what an answer says, in the paper's numbers
 abbrev pub told : Answer → Said
-told Done = done []
-told (Refused e place) = refused (number e) place
+told (Ok u) = done []
+told (Err r) = refused (number r.0) r.1
 
 -- the same of an answer that tells how many bytes were written
 abbrev pub told_written : Written → Said
-told_written (written.Done length) = done (length ∷ [])
-told_written (written.Refused e place) = refused (number e) place
+told_written (Ok length) = done (length ∷ [])
+told_written (Err r) = refused (number r.0) r.1

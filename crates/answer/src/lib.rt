@@ -2,7 +2,7 @@
 #![tactic(auto)]
 
 ghost use Rattle.std.specs.Prelude.{◌≡◌};
-ghost use Rattle.answer.specs.Answer.{number};
+ghost use Rattle.answer.specs.Answer.{number, placed};
 
 // The refusals, in the order of their numbers (document 01, "Refusal numbers").
 #[derive(Clone, Copy)]
@@ -49,44 +49,46 @@ pub enum Refusal {
     NotInFli,
 }
 
-// Done, or a refusal with its place.
+// A refusal and its place.
 #[derive(Clone, Copy)]
-pub enum Answer {
-    Done,
-    Refused(Refusal, usize),
-}
+pub struct Refused(pub Refusal, pub usize);
 
-// Done with so many bytes written, or a refusal with its place.
-#[derive(Clone, Copy)]
-pub enum Written {
-    Done(usize),
-    Refused(Refusal, usize),
+// What was refused without a place, with its place.
+pub fn placed<T: Copy>(answer: Result<T, Refusal>, place: usize) -> Result<T, Refused>
+    ensures { result ≡ placed place answer }
+{
+    match answer {
+        Ok(x) => Ok(x),
+        Err(e) => Err(Refused(e, place)),
+    }
 }
 
 // The number of a refusal.
-pub fn number_of(e: Refusal) -> u32
-    ensures { result ≡ number e }
-{
-    match e {
-        Refusal::ShortSlice => 1,
-        Refusal::BadSize => 2,
-        Refusal::NoRoom => 3,
-        Refusal::Cut => 4,
-        Refusal::WrongType => 5,
-        Refusal::SmallSize => 6,
-        Refusal::BodyEnds => 7,
-        Refusal::ZeroCount => 8,
-        Refusal::PastWidth => 9,
-        Refusal::PastHeight => 10,
-        Refusal::BadWord => 11,
-        Refusal::PastPalette => 12,
-        Refusal::OverLevel => 13,
-        Refusal::BadHeader => 14,
-        Refusal::FewFrames => 15,
-        Refusal::BadRing => 16,
-        Refusal::BadTrailer => 17,
-        Refusal::WrongTime => 18,
-        Refusal::SpareBytes => 19,
-        Refusal::NotInFli => 20,
+impl From<Refusal> for u32 {
+    ghost from_gives = { λ e n. n ≡ number e };
+
+    fn from(e: Refusal) -> u32 {
+        match e {
+            Refusal::ShortSlice => 1,
+            Refusal::BadSize => 2,
+            Refusal::NoRoom => 3,
+            Refusal::Cut => 4,
+            Refusal::WrongType => 5,
+            Refusal::SmallSize => 6,
+            Refusal::BodyEnds => 7,
+            Refusal::ZeroCount => 8,
+            Refusal::PastWidth => 9,
+            Refusal::PastHeight => 10,
+            Refusal::BadWord => 11,
+            Refusal::PastPalette => 12,
+            Refusal::OverLevel => 13,
+            Refusal::BadHeader => 14,
+            Refusal::FewFrames => 15,
+            Refusal::BadRing => 16,
+            Refusal::BadTrailer => 17,
+            Refusal::WrongTime => 18,
+            Refusal::SpareBytes => 19,
+            Refusal::NotInFli => 20,
+        }
     }
 }

@@ -10,7 +10,7 @@ ghost use Rattle.state.specs.Outcome.{lent_bytes, leaves};
 ghost use Rattle.board_clock.specs.Clock.{due, follows, first, stepped};
 ghost use Rattle.board_clock.specs.Replay.{numbers, replayed};
 
-use answer::{Refusal, Written};
+use answer::{Refusal, Refused};
 
 // Half the range of a counter of 32 bits.
 const HALF_RANGE: u32 = 2147483648;
@@ -38,10 +38,11 @@ pub struct Turn {
 }
 
 // What a reading brings.
+#[tactic(auto, unfolding(crate::specs::Clock::due, crate::specs::Clock::elapsed))]
 fn due_at(speed: u32, last: u32, reading: u32) -> Due
     ensures { result ≡ due speed last reading }
 {
-    let gone = std::num::wrapping_sub_u32(reading, last);
+    let gone = reading.wrapping_sub(last);
     if HALF_RANGE <= gone {
         return Due::SetBack;
     }
@@ -56,7 +57,7 @@ fn next_number(number: usize, frames: usize) -> usize
     ensures { result ≡ follows number frames % 2 ^ 64 }
 {
     if number <= frames {
-        return std::num::wrapping_add_usize(number, 1);
+        return number.wrapping_add(1);
     }
     2
 }
@@ -72,6 +73,7 @@ pub fn ring_follows(number: usize, frames: usize) -> bool
 }
 
 // One reading, over the clock and the number alone.
+#[tactic(auto, unfolding(crate::specs::Clock::stepped))]
 pub fn step(stands: Stands, frames: usize, speed: u32, reading: u32) -> Turn
     ensures { result ≡ stepped frames speed stands reading }
 {
@@ -83,15 +85,15 @@ pub fn step(stands: Stands, frames: usize, speed: u32, reading: u32) -> Turn
         Due::SetBack => Turn {
             due: Due::SetBack,
             stands: Stands {
-                number: stands.number,
                 last: reading,
+                ..stands
             },
         },
         Due::Frame => Turn {
             due: Due::Frame,
             stands: Stands {
                 number: next_number(stands.number, frames),
-                last: std::num::wrapping_add_u32(stands.last, speed),
+                last: stands.last.wrapping_add(speed),
             },
         },
     }
@@ -102,33 +104,33 @@ fn store_numbers(out: &mut [u32], readings: &[u32], frames: usize, speed: u32, s
     requires { (1 ≤ frames) × (frames ≤ max_frames) × (length readings.now ≤ length out.old) }
     ensures { out.new ≡ put out.old 0 (numbers frames speed (first start) readings.now) }
 {
-    let count = readings.len();
-    let mut number = 1;
-    let mut last = start;
-    let mut i = 0;
-    while i < count {
-        let turn = step(Stands { number, last }, frames, speed, readings[i]);
-        let stands = turn.stands;
-        number = stands.number;
-        last = stands.last;
-        out[i] = number as u32;
-        i = i + 1;
+    let mut stands = Stands {
+        number: 1,
+        last: start,
+    };
+    for (i, reading) in readings.iter().enumerate() {
+        stands = step(stands, frames, speed, *reading).stands;
+        out[i] = stands.number as u32;
     }
 }
 
 // Replays recorded readings: the number of the frame that stood after each.
-pub fn replay(speed: u32, frames: usize, start: u32, readings: &[u32], out: &mut [u32]) -> Written
+#[tactic(auto, unfolding(crate::specs::Replay::replayed))]
+pub fn replay(
+    speed: u32,
+    frames: usize,
+    start: u32,
+    readings: &[u32],
+    out: &mut [u32],
+) -> Result<usize, Refused>
     ensures { leaves (told_written result) (lent_bytes out.new) ≡ replayed speed frames start readings.now out.old }
 {
-    if frames < 1 {
-        return Written::Refused(Refusal::BadHeader, 0);
-    }
-    if frames > format::MAX_FRAMES {
-        return Written::Refused(Refusal::BadHeader, 0);
+    if frames < 1 || frames > format::MAX_FRAMES {
+        return Err(Refused(Refusal::BadHeader, 0));
     }
     if out.len() < readings.len() {
-        return Written::Refused(Refusal::NoRoom, 0);
+        return Err(Refused(Refusal::NoRoom, 0));
     }
     store_numbers(out, readings, frames, speed, start);
-    Written::Done(readings.len())
+    Ok(readings.len())
 }

@@ -4,10 +4,10 @@ use mathlib.Core.Path.{◌≡◌, refl, sym, ap, ap₂, ◌∙◌, subst}
 use mathlib.Core.List.{List, [], ◌∷◌}
 use Prim.Native.Nat.{ℕ}
 use native.Mathlib.Omega.{arith}
+use Rattle.std.specs.Prelude.{Ok}
 use Rattle.answer.specs.Answer.{done}
 use Rattle.state.specs.State.{State}
 use Rattle.state.specs.Outcome.{fitted}
-use Rattle.chunks.specs.declared.Next.TheVariants.{Frame}
 use Rattle.reel_header.specs.declared.Takes.TheVariants.{Both}
 use Rattle.reel_header.proofs.Laws.{head_in}
 use Rattle.board_clock.specs.declared.Stands.{Stands}
@@ -22,6 +22,8 @@ use Rattle.board_player.proofs.Laws.{placed_at_lem}
 use Rattle.board_laws.proofs.Ticks.{TickIs, idle, back, drawn, refused, tick_is}
 use Rattle.board_laws.proofs.Shows.{begun, player_shows}
 use Rattle.board_laws.specs.Playing.{Playing, ticked, stood, Unrefused, next, started, ReplayIsLive}
+use Rattle.chunks.specs.Spans.{frame_to}
+use Rattle.reel_header.specs.Head.{head_with}
 
 -- what a tick that isn't refused does to the record's clock
 pub record Clocked (p : Player) (r : ℕ) (q : Player) : Type 0 where
@@ -60,8 +62,8 @@ module _ (b : List ℕ) (now : ℕ) (one two : State) (e : (start_player b now o
       let reel = g.reel in
       let z = reel.picture in
       let i = head_in Both b _ reel.head in
-      let p : (start_player b now one two).player ≡ placed_by z reel.count reel.speed now (Frame reel.first reel.second)
-      = g.player_is ∙ sym (placed_at_lem b now z reel.count reel.size reel.speed reel.head reel.size refl (Frame reel.first reel.second) reel.frame_1) in
+      let p : (start_player b now one two).player ≡ placed_by z reel.count reel.speed now (Ok (frame_to reel.first reel.second))
+      = g.player_is ∙ sym (placed_at_lem b now (head_with z reel.count reel.size reel.speed) reel.head (Ok (frame_to reel.first reel.second)) reel.frame_1) in
       record {
         reel = reel;
         words = λ rs out. sym (replay_fitted reel.speed.0 reel.count now rs out i.some_frames i.few_frames)

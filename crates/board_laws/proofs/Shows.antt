@@ -10,6 +10,7 @@ use borrow.Author.Tests.{eq-eqb, ne_eqb, eqb-true, eqb-false, ltb-true, ltb-fals
 use lib.Dec.{eqb, ltb}
 use lib.ListN.{length, get_or, take, drop, length-append, length-take}
 use lib.Seq.{take-take, drop-cons, get_or-append_seam, take_at, drop-append_seam}
+use Rattle.std.specs.Prelude.{Ok, Err}
 use Rattle.words.specs.Words.{part}
 use Rattle.words.proofs.Tests.{by_test, cond_holds}
 use Rattle.format.specs.Limits.{area, size_fits, size_of, format_from, format_number}
@@ -17,16 +18,13 @@ use Rattle.format.specs.declared.Format.{Format}
 use Rattle.format.specs.declared.Format.TheVariants.{Flc, Fli}
 use Rattle.format.specs.declared.Size.{Size}
 use Rattle.format.proofs.Laws.{size_in_lem}
-use Rattle.answer.specs.Answer.{Said, done, refused, told}
+use Rattle.answer.specs.Answer.{Said, done, refused, told, refused_at, Answer}
 use Rattle.answer.specs.declared.Refusal.TheVariants.{ShortSlice}
-use Rattle.answer.specs.declared.Answer.{Answer}
-use Rattle.answer.specs.declared.Answer.TheVariants.{Done, Refused}
 use Rattle.state.specs.State.{State, state, blank, enough, front, refilled, Exact}
 use Rattle.state.specs.Outcome.{Outcome, lent_pair, lent_pairs, leaves, refuse}
 use Rattle.state.proofs.Laws.{enough_is}
 use Rattle.chunks.specs.declared.Layout.TheVariants.{Loose}
-use Rattle.chunks.specs.declared.Next.TheVariants.{Frame}
-use Rattle.chunks.specs.Spans.{HEADER_BYTES}
+use Rattle.chunks.specs.Spans.{HEADER_BYTES, frame_to}
 use Rattle.chunks.proofs.Spans.{next_in}
 use Rattle.chunks.proofs.Places.{next_prefix}
 use Rattle.read_frame.specs.Frame.{frame}
@@ -34,15 +32,12 @@ use Rattle.read_frame.specs.Reading.{played, read_frame}
 use Rattle.read_frame.proofs.Laws.{read_by_lem}
 use Rattle.read_frame.proofs.Sound.{played_exact}
 use Rattle.reel_play.specs.Play.{Progress, ran, one_frame, play_all}
-use Rattle.reel_play.specs.declared.Ran.TheVariants.{To}
 use Rattle.reel_play.proofs.Laws.{one_played}
 use Rattle.reel_laws.specs.Laps.{Reads, LeadsBack}
 use Rattle.reel_laws.specs.Laps as laps
-use Rattle.reel_laws.proofs.Laps.{blank_exact, reads_played, one_read, accepted_leads_back}
-use Rattle.reel_header.specs.Head.{head_of}
+use Rattle.reel_laws.proofs.Laps.{frame_same, blank_exact, reads_played, one_read, accepted_leads_back}
+use Rattle.reel_header.specs.Head.{head_of, Headed, head_with}
 use Rattle.reel_header.specs.declared.Takes.TheVariants.{Both}
-use Rattle.reel_header.specs.declared.Head.{Head}
-use Rattle.reel_header.specs.declared.Head.TheVariants as head
 use Rattle.reel_header.proofs.Laws.{ReelIn, head_in}
 use Rattle.reel_check.specs.Check.{ring_answer, checked_by, after_head, check_reel}
 use Rattle.board_clock.specs.Clock.{follows, stands, stepped}
@@ -75,24 +70,24 @@ module _ (z : Size) (b : List ℕ) where
   -- from offset at on they lead from s to each of the states
   pub data Plays : ℕ → State → List State → Type 0 where
     none : {at : ℕ} {s : State} → Plays at s []
-    next : {at : ℕ} {s : State} {ts : List State} (from end : ℕ) (t : State) → one_frame Loose z b at s ≡ ran (To from end) t → Exact z t
+    next : {at : ℕ} {s : State} {ts : List State} (from end : ℕ) (t : State) → one_frame Loose z b at s ≡ ran (Ok (frame_to from end)) t → Exact z t
         → end ≤ length b → Plays end t ts
         → Plays at s (t ∷ ts)
 
 module _ (z : Size) (ok : size_fits z ≡ true) where
   -- what a frame that was read came to
   record WasRead (f : List ℕ) (s t : State) : Type 0 where
-    pub accepted : (frame z f).answer ≡ Done
+    pub accepted : (frame z f).answer ≡ Ok tt
     pub gave : played (frame z f) s ≡ t
 
-  was_read : (f : List ℕ) (s t : State) → Exact z s → read_frame f z s ≡ leaves (told Done) (lent_pair t) → WasRead f s t
+  was_read : (f : List ℕ) (s t : State) → Exact z s → read_frame f z s ≡ leaves (told (Ok tt)) (lent_pair t) → WasRead f s t
   was_read f s t i e = by (frame z f).answer refl
     where
       by : (a : Answer) → (frame z f).answer ≡ a → WasRead f s t
-      by Done d = record { accepted = d; gave = ap (λ (o : Outcome). o.memory.first) (sym (reads_played z ok f s i d) ∙ e) }
-      by (Refused r p) d =
+      by (Ok u) d = record { accepted = d; gave = ap (λ (o : Outcome). o.memory.first) (sym (reads_played z ok f s i d) ∙ e) }
+      by (Err r') d =
           let q = ap (λ (o : Outcome). o.said)
-          (sym (read_by_lem f z s ok (enough_is (area z) s (omega (arith, i.picture.pixels)) (omega (arith, i.colours))) (Refused r p) d) ∙ e) in
+          (sym (read_by_lem f z s ok (enough_is (area z) s (omega (arith, i.picture.pixels)) (omega (arith, i.colours))) (Err (refused_at r'.0 r'.1)) d) ∙ e) in
           let k : ◌≡◌ {A = ℕ} 0 1 = cc in absurd (omega arith)
 
   -- frames that were read in the reel are played in all the bytes
@@ -106,7 +101,7 @@ module _ (z : Size) (ok : size_fits z ≡ true) where
       let x = subst (Exact z) d.gave (played_exact z (part (take n b) from end) s i) in
       next from end t
       (one_played Loose z b at s from end (next_prefix Loose n b at from end step) (ap (λ (f : List ℕ). (frame z f).answer) (sym e) ∙ d.accepted)
-      ∙ ap (ran (To from end)) (ap (λ (f : List ℕ). played (frame z f) s) (sym e) ∙ d.gave))
+      ∙ ap (ran (Ok (frame_to from end))) (ap (λ (f : List ℕ). played (frame z f) s) (sym e) ∙ d.gave))
       x (omega (arith, inside.2, long)) (reads_play n b rest x)
 
 -- a pair with a state stored at its front
@@ -177,7 +172,7 @@ module _ {b : List ℕ} (reel : LeadsBack b) where
   record Ahead (at : ℕ) (s t : State) (ts : List State) : Type 0 where
     pub from : ℕ
     pub end : ℕ
-    pub frame_is : one_frame Loose z b at s ≡ ran (To from end) t
+    pub frame_is : one_frame Loose z b at s ≡ ran (Ok (frame_to from end)) t
     pub exact : Exact z t
     pub within : end ≤ length b
     pub rest : Plays z b end t ts
@@ -198,8 +193,8 @@ module _ {b : List ℕ} (reel : LeadsBack b) where
   lap =
       let f = ahead (reads_play z inside.sized reel.size b reel.reads blank_start) in
       let o = one_read z inside.sized b HEADER_BYTES (blank (area z)) blank_start f.from f.end reel.one f.frame_is in
-      let q : Frame f.from f.end ≡ Frame reel.first reel.second = sym o.step ∙ next_prefix Loose reel.size b HEADER_BYTES reel.first reel.second reel.frame_1 in
-      let e : f.end ≡ reel.second = cc in
+      let q = sym o.step ∙ next_prefix Loose reel.size b HEADER_BYTES reel.first reel.second reel.frame_1 in
+      let e = (frame_same f.from f.end reel.first reel.second q).1 in
       record { exact = f.exact; within = omega (arith, f.within, e); plays = subst (λ (n : ℕ). Plays z b n reel.one (reel.middle ++ (reel.one ∷ []))) e f.rest }
 
   module _ (first : State) (x : Playing) (v : Standing first x) where
@@ -210,15 +205,15 @@ module _ {b : List ℕ} (reel : LeadsBack b) where
     next_one = ahead (subst (Plays z b p.place (state_of reel v.k)) (behind_state v.k v.most) v.plays)
 
     -- the frame that comes next is drawn
-    draws : draw p b x.pair ≡ ran (To next_one.from next_one.end) (refilled (area z) (state_of reel (suc v.k)) first)
+    draws : draw p b x.pair ≡ ran (Ok (frame_to next_one.from next_one.end)) (refilled (area z) (state_of reel (suc v.k)) first)
     draws =
         let t = state_of reel (suc v.k) in
         let room : enough (area z) x.pair ≡ true = ap (enough (area z)) v.pair_is ∙ room_of z first (state_of reel v.k) v.exact in
         let was : front (area z) x.pair ≡ state_of reel v.k = ap (front (area z)) v.pair_is ∙ front_of z first (state_of reel v.k) v.exact in
         sym (draw_one p b x.pair z v.size_is inside.sized room (record_fits p b v.within v.least_number (omega (arith, v.most_number, v.frames_is)))
-        (area z) refl (To next_one.from next_one.end) t
+        (Ok (frame_to next_one.from next_one.end)) t
         (sym (ap (one_frame Loose z b p.place) was ∙ next_one.frame_is)))
-        ∙ ap (ran (To next_one.from next_one.end)) (ap (refilled (area z) t) v.pair_is ∙ refilled_again z first (state_of reel v.k) v.exact t)
+        ∙ ap (ran (Ok (frame_to next_one.from next_one.end))) (ap (refilled (area z) t) v.pair_is ∙ refilled_again z first (state_of reel v.k) v.exact t)
 
     -- the record after that
     abbrev drawn_on : Playing
@@ -324,8 +319,7 @@ module _ {b : List ℕ} (reel : LeadsBack b) where
         by (back e c) = record { event = SET_BACK; said = ap (λ (o : PlayerOutcome). o.left.said) e; stands = shows _ e (back_standing r) }
         by (drawn last end t d e c) =
             let q = sym d ∙ draws in
-            let k : To last end ≡ To next_one.from next_one.end = ap (λ (y : Progress). y.result) q in
-            let ends : end ≡ next_one.end = cc in
+            let ends = (frame_same last end next_one.from next_one.end (ap (λ (y : Progress). y.result) q)).1 in
             record {
               event = DRAWN;
               said = ap (λ (o : PlayerOutcome). o.left.said) e;
@@ -359,7 +353,7 @@ module _ {b : List ℕ} (reel : LeadsBack b) where
     placed_standing : (now : ℕ) → Standing first (playing (placed b now) (refilled (area z) reel.one first))
     placed_standing now =
         subst (λ (p : Player). Standing first (playing p (refilled (area z) reel.one first)))
-        (placed_at_lem b now z count reel.size reel.speed reel.head reel.size refl (Frame reel.first reel.second) reel.frame_1)
+        (placed_at_lem b now (head_with z count reel.size reel.speed) reel.head (Ok (frame_to reel.first reel.second)) reel.frame_1)
         (record {
           k = 1;
           some = omega arith;
@@ -384,16 +378,16 @@ unfolding check_reel
 check_says b first second v e = by (head_of Both b) e
   where
     answered : (a : Answer) → told a ≡ done v → v ≡ []
-    answered Done q = cc
-    answered (Refused r p) q = let i : ◌≡◌ {A = ℕ} 0 1 = cc in absurd (omega arith)
+    answered (Ok u) q = cc
+    answered (Err r') q = let i : ◌≡◌ {A = ℕ} 0 1 = cc in absurd (omega arith)
 
-    by : (x : Head) → (after_head b x first second).said ≡ done v → v ≡ []
-    by (head.Fault r) q = answered (Refused r 0) q
-    by (head.Reel z count size speed) q =
-        let x = play_all Loose count z (take size b) in
-        cond_holds (λ (o : Outcome). o.said ≡ done v → v ≡ []) (enough (area z) first && enough (area z) second) (checked_by (area z) x first second)
+    by : (x : Headed) → (after_head b x first second).said ≡ done v → v ≡ []
+    by (Err r) q = answered (Err (refused_at r 0)) q
+    by (Ok h) q =
+        let x = play_all Loose h.frames h.picture (take h.size b) in
+        cond_holds (λ (o : Outcome). o.said ≡ done v → v ≡ []) (enough (area h.picture) first && enough (area h.picture) second) (checked_by (area h.picture) x first second)
         (refuse ShortSlice 0 (lent_pairs first second))
-        (answered (ring_answer x)) (answered (Refused ShortSlice 0)) q
+        (answered (ring_answer x)) (answered (Err (refused_at ShortSlice 0))) q
 
 module _ (b : List ℕ) (now : ℕ) (first second : State) (e : (start_player b now first second).left.said ≡ done []) where
   -- the check was done

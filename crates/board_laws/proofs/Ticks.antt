@@ -2,13 +2,12 @@
 use mathlib.Core.Path.{◌≡◌, refl, sym, ap, ◌∙◌}
 use mathlib.Core.List.{List, [], ◌∷◌}
 use Prim.Native.Nat.{ℕ, ◌+◌, ◌%◌, ◌^◌}
-use Rattle.answer.specs.Answer.{done}
+use Rattle.std.specs.Prelude.{Ok, Err}
+use Rattle.answer.specs.Answer.{done, refused_at}
 use Rattle.answer.specs.declared.Refusal.{Refusal}
 use Rattle.state.specs.State.{State}
 use Rattle.state.specs.Outcome.{lent_pair, leaves}
-use Rattle.reel_play.specs.Play.{Progress, ran}
-use Rattle.reel_play.specs.declared.Ran.{Ran}
-use Rattle.reel_play.specs.declared.Ran.TheVariants.{Stopped, To}
+use Rattle.reel_play.specs.Play.{Progress, ran, Ran}
 use Rattle.board_clock.specs.declared.Due.{Due}
 use Rattle.board_clock.specs.declared.Due.TheVariants.{Nothing, Frame, SetBack}
 use Rattle.board_clock.specs.declared.Stands.{Stands}
@@ -19,6 +18,7 @@ use Rattle.board_player.specs.declared.Player.{Player}
 use Rattle.board_player.specs.Player.{NOTHING, DRAWN, SET_BACK, standing, place_after, PlayerOutcome, plays, keeps}
 use Rattle.board_player.specs.Ticking.{draw, drawn_by, clock_of, tick}
 use Rattle.board_player.proofs.Laws.{tick_by_lem, tick_drawn}
+use Rattle.chunks.specs.Spans.{frame_to}
 
 -- the frame that comes next, drawn when its time came
 abbrev pub drawn_then : Player → Stands
@@ -29,9 +29,9 @@ module _ (p : Player) (b : List ℕ) (r : ℕ) (lent : State) where
   pub data TickIs (o : PlayerOutcome) (clock : Stands) : Type 0 where
     idle : o ≡ plays p (leaves (done (NOTHING ∷ [])) (lent_pair lent)) → clock ≡ clock_of p → TickIs o clock
     back : o ≡ plays (standing p (stands p.number r) p.place) (leaves (done (SET_BACK ∷ [])) (lent_pair lent)) → clock ≡ stands p.number r → TickIs o clock
-    drawn : (last end : ℕ) (t : State) → draw p b lent ≡ ran (To last end) t
+    drawn : (last end : ℕ) (t : State) → draw p b lent ≡ ran (Ok (frame_to last end)) t
         → o ≡ plays (standing p (drawn_then p) (place_after p end)) (leaves (done (DRAWN ∷ [])) (lent_pair t)) → clock ≡ drawn_then p → TickIs o clock
-    refused : (e : Refusal) (place : ℕ) (t : State) → draw p b lent ≡ ran (Stopped e place) t → o ≡ keeps p e place (lent_pair lent) → TickIs o clock
+    refused : (e : Refusal) (place : ℕ) (t : State) → draw p b lent ≡ ran (Err (refused_at e place)) t → o ≡ keeps p e place (lent_pair lent) → TickIs o clock
 
   pub tick_is : TickIs (tick p b r lent) (stepped p.frames p.speed.0 (clock_of p) r).stands
   tick_is = by (due p.speed.0 p.last r) refl
@@ -42,11 +42,11 @@ module _ (p : Player) (b : List ℕ) (r : ℕ) (lent : State) where
           drawing : stepped_by p.frames p.speed.0 (clock_of p) r Frame ≡ stepped p.frames p.speed.0 (clock_of p) r → (x : Ran) (t : State)
               → draw p b lent ≡ ran x t
               → TickIs (tick p b r lent) (stepped p.frames p.speed.0 (clock_of p) r).stands
-          drawing q (Stopped f place) t i =
-              refused f place t i (sym (tick_by_lem p b r lent (stepped_by p.frames p.speed.0 (clock_of p) r Frame) q Frame refl)
+          drawing q (Err r') t i =
+              refused r'.0 r'.1 t i (sym (tick_by_lem p b r lent (stepped_by p.frames p.speed.0 (clock_of p) r Frame) q Frame refl)
               ∙ ap (λ (y : Progress). drawn_by p (drawn_then p) lent y.result y.after) i)
-          drawing q (To last end) t i = drawn last end t i
-              (sym (tick_drawn p b r lent (stepped_by p.frames p.speed.0 (clock_of p) r Frame) q refl last end t (sym i))) (sym (ap (λ (t : Turn). t.stands) q))
+          drawing q (Ok p') t i = drawn p'.from p'.end t i
+              (sym (tick_drawn p b r lent (stepped_by p.frames p.speed.0 (clock_of p) r Frame) q refl p' t (sym i))) (sym (ap (λ (t : Turn). t.stands) q))
 
           go : (d : Due) → stepped_by p.frames p.speed.0 (clock_of p) r d ≡ stepped p.frames p.speed.0 (clock_of p) r
               → TickIs (tick p b r lent) (stepped p.frames p.speed.0 (clock_of p) r).stands

@@ -1,5 +1,5 @@
 -- Starting a player (document 02, Req 01): the answer, the record, and what both pairs hold afterwards.
-use Rattle.std.specs.Prelude.{ℕ, List, [], take}
+use Rattle.std.specs.Prelude.{ℕ, List, [], take, Ok, Err}
 use Rattle.format.specs.Limits.{area}
 use Rattle.format.specs.declared.Size.{Size}
 use Rattle.delay.specs.declared.Milliseconds.{Milliseconds}
@@ -7,13 +7,9 @@ use Rattle.answer.specs.Answer.{Said, done, refused}
 use Rattle.state.specs.State.{State, blank, refilled}
 use Rattle.state.specs.Outcome.{Outcome, lent_pairs, leaves}
 use Rattle.chunks.specs.declared.Layout.TheVariants.{Loose}
-use Rattle.chunks.specs.declared.Next.{Next}
-use Rattle.chunks.specs.declared.Next.TheVariants as next
-use Rattle.chunks.specs.Spans.{HEADER_BYTES, next_at}
-use Rattle.reel_header.specs.Head.{head_of}
+use Rattle.chunks.specs.Spans.{HEADER_BYTES, next_at, Next}
+use Rattle.reel_header.specs.Head.{head_of, Headed}
 use Rattle.reel_header.specs.declared.Takes.TheVariants.{Both}
-use Rattle.reel_header.specs.declared.Head.{Head}
-use Rattle.reel_header.specs.declared.Head.TheVariants as head
 use Rattle.reel_play.specs.Play.{one_frame}
 use Rattle.reel_check.specs.Check.{check_reel}
 use Rattle.board_player.specs.declared.Player.{Player}
@@ -21,21 +17,21 @@ use Rattle.board_player.specs.Player.{no_player, player_at, PlayerOutcome, plays
 
 -- the record of a reel whose frame 1 was drawn at reading; there is none where the header or frame 1's is refused
 abbrev pub placed_by : Size → ℕ → Milliseconds → ℕ → Next → Player
-placed_by z count speed reading (next.Fault e place) = no_player
-placed_by z count speed reading (next.Frame from end) = player_at z count end speed reading
+placed_by z count speed reading (Err r) = no_player
+placed_by z count speed reading (Ok f) = player_at z count f.end speed reading
 
-abbrev pub placed_at : List ℕ → ℕ → Head → Player
-placed_at b reading (head.Fault e) = no_player
-placed_at b reading (head.Reel z count size speed) = placed_by z count speed reading (next_at Loose (take size b) HEADER_BYTES)
+abbrev pub placed_at : List ℕ → ℕ → Headed → Player
+placed_at b reading (Err e) = no_player
+placed_at b reading (Ok h) = placed_by h.picture h.frames h.speed reading (next_at Loose (take h.size b) HEADER_BYTES)
 
 unfoldable pub placed : List ℕ → ℕ → Player
 unfolding head_of next_at
 placed b reading = placed_at b reading (head_of Both b)
 
 -- a lent pair that shows frame 1, which "is read against blank"
-abbrev pub showing_by : List ℕ → Head → State → State
-showing_by b (head.Fault e) lent = lent
-showing_by b (head.Reel z count size speed) lent = refilled (area z) (one_frame Loose z (take size b) HEADER_BYTES (blank (area z))).after lent
+abbrev pub showing_by : List ℕ → Headed → State → State
+showing_by b (Err e) lent = lent
+showing_by b (Ok h) lent = refilled (area h.picture) (one_frame Loose h.picture (take h.size b) HEADER_BYTES (blank (area h.picture))).after lent
 
 unfoldable pub showing_first : List ℕ → State → State
 unfolding head_of one_frame

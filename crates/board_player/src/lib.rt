@@ -2,24 +2,23 @@
 #![tactic(auto)]
 
 ghost use Rattle.std.specs.Prelude.{◌≡◌};
-ghost use Rattle.answer.specs.Answer.{told};
 ghost use Rattle.state.specs.State.{state};
 ghost use Rattle.state.specs.Outcome.{lent_pair, lent_pairs, leaves};
 ghost use Rattle.reel_play.specs.Play.{ran};
-ghost use Rattle.board_player.specs.Player.{told_tick, no_player, player_at, player_size, plays, standing, place_after};
-ghost use Rattle.board_player.specs.Ticking.{draw, tick};
-ghost use Rattle.board_player.specs.Starting.{placed, start_player};
+ghost use Rattle.board_player.specs.Player.{event_number, told_tick, player_at, player_size, plays, ticks, starts, standing, place_after};
+ghost use Rattle.board_player.specs.Ticking.{record_ok, draw, tick};
+ghost use Rattle.board_player.specs.Starting.{start_player};
 
-use answer::{Answer, Refusal};
+use answer::{Refusal, Refused};
 use board_clock::{Due, Stands};
-use chunks::{HEADER_BYTES, Layout, Next};
+use chunks::{Frame, HEADER_BYTES, Layout};
 use delay::Milliseconds;
-use format::{PALETTE_BYTES, Size};
+use format::{Format, PALETTE_BYTES, Size};
 use reel_header::{Head, Takes};
-use reel_play::Ran;
 
 // What a player carries from tick to tick: the reel's size and frames, the number of the frame that stands, the place where the next one is looked for,
-// where frame 1 ends, the speed, the last draw time, and the format as a number (format::format_from). A caller may hand in any values.
+// where frame 1 ends, the speed, the last draw time, and the format as a number (Format::from). A caller may hand in any values. The record lies in
+// C's memory as it stands here: that is why number and last are no Stands, width and height no Size, and the format is a number.
 #[repr(C)]
 #[derive(Clone, Copy)]
 pub struct Player {
@@ -34,44 +33,56 @@ pub struct Player {
     pub format: u32,
 }
 
-// What a tick answers: nothing was due, a frame was drawn, the clock was set back, or a refusal with its place.
+// What a tick brings: nothing was due, a frame was drawn, or the clock was set back.
 #[derive(Clone, Copy)]
-pub enum Ticked {
+pub enum Event {
     Nothing,
     Drawn,
     SetBack,
-    Refused(Refusal, usize),
 }
 
-// A tick's answer, and the player after it.
+// What a tick brought, and the player after it.
 #[derive(Clone, Copy)]
 pub struct Stepped {
-    pub ticked: Ticked,
+    pub event: Event,
     pub player: Player,
 }
 
-// An answer, and the player that was started: all 0 where refused.
-#[derive(Clone, Copy)]
-pub struct Started {
-    pub answer: Answer,
-    pub player: Player,
+// The number of an event.
+impl From<Event> for u32 {
+    ghost from_gives = { λ event number. number ≡ event_number event };
+
+    fn from(event: Event) -> u32 {
+        match event {
+            Event::Nothing => 0,
+            Event::Drawn => 1,
+            Event::SetBack => 2,
+        }
+    }
+}
+
+// The size of a player's pictures, and the format of its frames.
+impl From<Player> for Size {
+    ghost from_gives = { λ player size. size ≡ player_size player };
+
+    fn from(player: Player) -> Size {
+        Size {
+            width: player.width,
+            height: player.height,
+            format: Format::from(player.format),
+        }
+    }
 }
 
 // The player with another frame standing, the next being looked for at place.
 fn standing_at(player: Player, stands: Stands, place: usize) -> Player
     ensures { result ≡ standing player stands place }
 {
-    let speed = player.speed;
     Player {
-        width: player.width,
-        height: player.height,
-        frames: player.frames,
         number: stands.number,
         place,
-        second: player.second,
-        speed,
         last: stands.last,
-        format: player.format,
+        ..player
     }
 }
 
@@ -85,93 +96,79 @@ fn place_after(player: Player, end: usize) -> usize
     end
 }
 
-// The size of a player's pictures, and the format of its frames.
-fn size_of(player: Player) -> Size
-    ensures { result ≡ player_size player }
+// Whether a player's place lies within the bytes, and its number is that of a frame or of the ring.
+fn record_ok(player: Player, bytes: &[u8]) -> bool
+    ensures { result ≡ record_ok player bytes.now }
 {
-    Size {
-        width: player.width,
-        height: player.height,
-        format: format::format_from(player.format),
-    }
+    player.place <= bytes.len() && 1 <= player.number && player.number - 1 <= player.frames
 }
 
-// Draws the frame that comes next.
-fn draw_next(player: Player, bytes: &[u8], picture: &mut [u8], palette: &mut [u8]) -> Ran
+// Draws the frame that comes next, and gives where it lies.
+fn draw_next(
+    player: Player,
+    bytes: &[u8],
+    picture: &mut [u8],
+    palette: &mut [u8],
+) -> Result<Frame, Refused>
     ensures { ran result (state picture.new palette.new) ≡ draw player bytes.now (state picture.old palette.old) }
 {
-    let size = size_of(player);
+    let size = Size::from(player);
     if !format::size_fits(size) {
-        return Ran::Stopped(Refusal::BadSize, 0);
+        return Err(Refused(Refusal::BadSize, 0));
     }
     let n = size.width * size.height;
     if !state::holds(picture.len(), palette.len(), n) {
-        return Ran::Stopped(Refusal::ShortSlice, 0);
+        return Err(Refused(Refusal::ShortSlice, 0));
     }
-    let place = player.place;
-    if bytes.len() < place {
-        return Ran::Stopped(Refusal::Cut, 0);
-    }
-    if player.number < 1 {
-        return Ran::Stopped(Refusal::Cut, 0);
-    }
-    if player.frames < player.number - 1 {
-        return Ran::Stopped(Refusal::Cut, 0);
+    if !record_ok(player, bytes) {
+        return Err(Refused(Refusal::Cut, 0));
     }
     reel_play::one_frame(
-        &mut picture[0..n],
-        &mut palette[0..PALETTE_BYTES],
+        &mut picture[..n],
+        &mut palette[..PALETTE_BYTES],
         bytes,
         Layout::Loose,
-        place,
+        player.place,
         size,
     )
 }
 
-// One tick of a player by value.
+// One tick of a player by value. A refusal leaves the caller with the player that it handed in.
 pub fn step(
     player: Player,
     bytes: &[u8],
     reading: u32,
     picture: &mut [u8],
     palette: &mut [u8],
-) -> Stepped
-    ensures { plays result.player (leaves (told_tick result.ticked) (lent_pair (state picture.new palette.new)))
-        ≡ tick player bytes.now reading (state picture.old palette.old) }
+) -> Result<Stepped, Refused>
+    ensures { ticks player result (lent_pair (state picture.new palette.new)) ≡ tick player bytes.now reading (state picture.old palette.old) }
 {
-    let speed = player.speed;
     let turn = board_clock::step(
         Stands {
             number: player.number,
             last: player.last,
         },
         player.frames,
-        speed.0,
+        player.speed.0,
         reading,
     );
-    let due = turn.due;
-    match due {
-        Due::Nothing => Stepped {
-            ticked: Ticked::Nothing,
+    match turn.due {
+        Due::Nothing => Ok(Stepped {
+            event: Event::Nothing,
             player,
-        },
-        Due::SetBack => Stepped {
-            ticked: Ticked::SetBack,
+        }),
+        Due::SetBack => Ok(Stepped {
+            event: Event::SetBack,
             player: standing_at(player, turn.stands, player.place),
-        },
-        Due::Frame => match draw_next(player, bytes, picture, palette) {
-            Ran::Stopped(e, place) => Stepped {
-                ticked: Ticked::Refused(e, place),
-                player,
-            },
-            Ran::To { last: _, next } => {
-                let place = place_after(player, next);
-                Stepped {
-                    ticked: Ticked::Drawn,
-                    player: standing_at(player, turn.stands, place),
-                }
-            }
-        },
+        }),
+        Due::Frame => {
+            let drawn = draw_next(player, bytes, picture, palette)?;
+            let place = place_after(player, drawn.end);
+            Ok(Stepped {
+                event: Event::Drawn,
+                player: standing_at(player, turn.stands, place),
+            })
+        }
     }
 }
 
@@ -182,65 +179,29 @@ pub fn tick(
     reading: u32,
     picture: &mut [u8],
     palette: &mut [u8],
-) -> Ticked
+) -> Result<Event, Refused>
     ensures { plays player.new (leaves (told_tick result) (lent_pair (state picture.new palette.new)))
         ≡ tick player.old bytes.now reading (state picture.old palette.old) }
 {
-    let stepped = step(*player, bytes, reading, picture, palette);
+    let stepped = step(*player, bytes, reading, picture, palette)?;
     *player = stepped.player;
-    stepped.ticked
+    Ok(stepped.event)
 }
 
-// No player.
-fn no_player() -> Player
-    ensures { result ≡ no_player }
+// A player at frame 1 of the reel with this header; frame 1 ends at offset end, and was drawn at the reading given.
+fn player_at(head: Head, end: usize, reading: u32) -> Player
+    ensures { result ≡ player_at head.picture head.frames end head.speed reading }
 {
     Player {
-        width: 0,
-        height: 0,
-        frames: 0,
-        number: 0,
-        place: 0,
-        second: 0,
-        speed: Milliseconds(0),
-        last: 0,
-        format: 0,
-    }
-}
-
-// A player at frame 1, which ends at offset end.
-fn player_at(picture: Size, frames: usize, end: usize, speed: Milliseconds, reading: u32) -> Player
-    ensures { result ≡ player_at picture frames end speed reading }
-{
-    let format = picture.format;
-    Player {
-        width: picture.width,
-        height: picture.height,
-        frames,
+        width: head.picture.width,
+        height: head.picture.height,
+        frames: head.frames,
         number: 1,
         place: end,
         second: end,
-        speed,
+        speed: head.speed,
         last: reading,
-        format: format::format_number(format),
-    }
-}
-
-// The player of a reel at frame 1, drawn at the reading given.
-fn place_player(bytes: &[u8], reading: u32) -> Player
-    ensures { result ≡ placed bytes.now reading }
-{
-    match reel_header::head_of(Takes::Both, bytes) {
-        Head::Fault(_) => no_player(),
-        Head::Reel {
-            picture,
-            frames,
-            size,
-            speed,
-        } => match chunks::step_at(&bytes[0..size], Layout::Loose, HEADER_BYTES) {
-            Next::Fault(_, _) => no_player(),
-            Next::Frame { from: _, end } => player_at(picture, frames, end, speed, reading),
-        },
+        format: u32::from(head.picture.format),
     }
 }
 
@@ -252,24 +213,19 @@ pub fn start_player(
     first_palette: &mut [u8],
     second_picture: &mut [u8],
     second_palette: &mut [u8],
-) -> Started
-    ensures { plays result.player (leaves (told result.answer) (lent_pairs (state first_picture.new first_palette.new) (state second_picture.new second_palette.new)))
+) -> Result<Player, Refused>
+    ensures { starts result (lent_pairs (state first_picture.new first_palette.new) (state second_picture.new second_palette.new))
         ≡ start_player bytes.now reading (state first_picture.old first_palette.old) (state second_picture.old second_palette.old) }
 {
-    match reel_check::check_reel(
+    reel_check::check_reel(
         bytes,
         first_picture,
         first_palette,
         second_picture,
         second_palette,
-    ) {
-        Answer::Refused(e, place) => Started {
-            answer: Answer::Refused(e, place),
-            player: no_player(),
-        },
-        Answer::Done => Started {
-            answer: Answer::Done,
-            player: place_player(bytes, reading),
-        },
-    }
+    )?;
+    // A reel that was accepted has a header and a frame 1: neither is refused here.
+    let head = answer::placed(reel_header::head_of(Takes::Both, bytes), 0)?;
+    let frame = chunks::step_at(&bytes[..head.size], Layout::Loose, HEADER_BYTES)?;
+    Ok(player_at(head, frame.end, reading))
 }

@@ -11,7 +11,8 @@ use Rattle.words.proofs.Tests.{by_test}
 use Rattle.format.specs.Limits.{size_ok}
 use Rattle.answer.specs.declared.Refusal.TheVariants.{ShortSlice, BadSize}
 use Rattle.state.specs.Outcome.{lent_bytes, refuse, fitted}
-use Rattle.board_tiles.specs.Tiles.{any, changed, changed_at}
+use Rattle.std.specs.Int.{div_ceil}
+use Rattle.board_tiles.specs.Tiles.{TILE, tiles, any, changed, changed_at}
 use Rattle.board_tiles.specs.Mapping.{tile_word, words_from, tile_words, tile_map}
 
 -- any
@@ -37,6 +38,11 @@ any_cut P m (suc n) l h =
 pub any_none : (P : ℕ → Bool) (n : ℕ) → ((k : ℕ) → k < n → P k ≡ false) → any P n ≡ false
 unfolding any
 any_none P n h = sym (any_cut P 0 n (omega arith) (λ k a b. h k b))
+
+-- how many tiles lie along n pixels, as the code divides
+
+pub tiles_ceil : (n : ℕ) → div_ceil n TILE ≡ tiles n
+tiles_ceil n = omega arith
 
 -- changed_at
 

@@ -1,10 +1,10 @@
 -- Noting the columns of a tile row: what a byte tells, a turn of a loop, and that the columns noted are the tile row's.
-use mathlib.Core.Path.{◌≡◌, refl, sym, ap, ap₂, subst, ◌∙◌}
+use mathlib.Core.Path.{◌≡◌, sym, ap, ap₂, ◌∙◌}
 use mathlib.Core.List.{List, ◌++◌}
 use mathlib.Core.Bool.{Bool, false, not, ◌||◌}
-use Prim.Native.Nat.{ℕ, suc, ◌+◌, ◌-◌, ◌*◌, ◌≤◌, ◌<◌}
+use Prim.Native.Nat.{ℕ, ◌+◌, ◌-◌, ◌*◌, ◌≤◌, ◌<◌}
 use native.Mathlib.Omega.{arith}
-use native.Mathlib.Nat.{add-mul, suc-mul, mul_comm, mul-le-mul_right}
+use native.Mathlib.Nat.{add-mul, mul_comm, mul-le-mul_right}
 use native.Mathlib.Numerals.{add-one}
 use borrow.Author.Tests.{leb-true, leb-false, eq-eqb, ne_eqb, eqb-true, eqb-false}
 use lib.Bits.{bit_or, bit_xor, xor_self, xor_add_and, or_add_and, and_le_l, and_le_r}
@@ -37,48 +37,12 @@ tells_or a b =
     (λ f. ap not (ne_eqb (bit_or a b) 0 (λ z. eqb-false b 0 f (omega (arith, z, or_add_and a b, and_le_l a b, and_le_r a b))))))
     (λ e. ap not (ne_eqb (bit_or a b) 0 (λ z. eqb-false a 0 e (omega (arith, z, or_add_and a b, and_le_l a b, and_le_r a b)))))
 
--- eight bytes joined tell whether one of eight has the property
-module _ (a b c d e f g h : ℕ) where
-  abbrev pub joined : ℕ
-  joined = bit_or (bit_or (bit_or (bit_or (bit_or (bit_or (bit_or a b) c) d) e) f) g) h
+-- one byte more joined to what tells of the numbers below n
+pub tells_more : (P : ℕ → Bool) (n a b : ℕ) → tells a ≡ any P n → tells b ≡ P n → tells (bit_or a b) ≡ any P (n + 1)
+unfolding any
+tells_more P n a b s t = tells_or a b ∙ ap₂ (λ (x y : Bool). x || y) s t ∙ ap (any P) (sym (add-one n))
 
-  pub eight_tell : (P : ℕ → Bool) → tells a ≡ P 0 → tells b ≡ P 1 → tells c ≡ P 2 → tells d ≡ P 3 → tells e ≡ P 4 → tells f ≡ P 5 → tells g ≡ P 6
-      → tells h ≡ P 7
-      → tells joined ≡ any P TILE
-  unfolding any
-  eight_tell P ea eb ec ed ee ef eg eh =
-      join (bit_or (bit_or (bit_or (bit_or (bit_or (bit_or a b) c) d) e) f) g) h (any P 7) (P 7)
-      (join (bit_or (bit_or (bit_or (bit_or (bit_or a b) c) d) e) f) g (any P 6) (P 6)
-      (join (bit_or (bit_or (bit_or (bit_or a b) c) d) e) f (any P 5) (P 5)
-      (join (bit_or (bit_or (bit_or a b) c) d) e (any P 4) (P 4)
-      (join (bit_or (bit_or a b) c) d (any P 3) (P 3) (join (bit_or a b) c (any P 2) (P 2) (join a b (P 0) (P 1) ea eb) ec) ed) ee) ef) eg) eh
-    where
-      join : (m n : ℕ) (s t : Bool) → tells m ≡ s → tells n ≡ t → tells (bit_or m n) ≡ (s || t)
-      join m n s t i k = tells_or m n ∙ ap₂ (λ (x y : Bool). x || y) i k
-
-  -- of pixels below each other
-  pub eight_below : (w : ℕ) (p q : List ℕ) (at : ℕ) → tells a ≡ changed p q at → tells b ≡ changed p q (at + w) → tells c ≡ changed p q (at + 2 * w)
-      → tells d ≡ changed p q (at + 3 * w)
-      → tells e ≡ changed p q (at + 4 * w) → tells f ≡ changed p q (at + 5 * w) → tells g ≡ changed p q (at + 6 * w) → tells h
-      ≡ changed p q (at + 7 * w) → tells joined ≡ below w p q TILE at
-  eight_below w p q at ea eb ec ed ee ef eg eh =
-      let zeroth : at ≡ at + 0 * w = omega arith in
-      let first : at + w ≡ at + 1 * w = omega arith in
-      eight_tell (λ k. changed p q (at + k * w)) (ea ∙ ap (changed p q) zeroth) (eb ∙ ap (changed p q) first) ec ed ee ef eg eh
-
-  -- of columns side by side
-  pub eight_beside : (m : List ℕ) (i : ℕ) → a ≡ get_or m (TILE * i) 0 → b ≡ get_or m (TILE * i + 1) 0 → c ≡ get_or m (TILE * i + 2) 0 → d
-      ≡ get_or m (TILE * i + 3) 0
-      → e ≡ get_or m (TILE * i + 4) 0 → f ≡ get_or m (TILE * i + 5) 0 → g ≡ get_or m (TILE * i + 6) 0 → h ≡ get_or m (TILE * i + 7) 0 → tells joined ≡ noted m i
-  eight_beside m i ea eb ec ed ee ef eg eh =
-      let zeroth : TILE * i ≡ TILE * i + 0 = omega arith in
-      eight_tell (λ k. tells (get_or m (TILE * i + k) 0)) (ap tells (ea ∙ ap (λ (k : ℕ). get_or m k 0) zeroth)) (ap tells eb) (ap tells ec)
-      (ap tells ed) (ap tells ee) (ap tells ef) (ap tells eg) (ap tells eh)
-
--- Noted: nothing yet, a column more
-
-pub noted_none : (d : List ℕ) (P : ℕ → Bool) → Noted d d 0 P
-noted_none d P = record { long = refl; told = λ x h. absurd (omega arith); kept = λ x h. refl }
+-- Noted: a column more
 
 pub noted_more : (d e : List ℕ) (i v : ℕ) (P : ℕ → Bool) → Noted d e i P → i < length d → tells v ≡ P i → Noted d (set e i v) (i + 1) P
 noted_more d e i v P n h t =
@@ -95,52 +59,42 @@ noted_more d e i v P n h t =
     below_it : (x : ℕ) → (x ≡ i → ⊥) → x < i + 1 → x < i
     below_it x s k = omega arith
 
-pub noted_all : (d e : List ℕ) (i w : ℕ) (P : ℕ → Bool) → Noted d e i P → i ≤ w → w ≤ i → Noted d e w P
-noted_all d e i w P n h k = let s : i ≡ w = omega arith in subst (λ (x : ℕ). Noted d e x P) s n
-
 pub noted_ext : (d e : List ℕ) (w : ℕ) (P Q : ℕ → Bool) → Noted d e w P → ((x : ℕ) → x < w → P x ≡ Q x) → Noted d e w Q
 noted_ext d e w P Q n h = record { long = n.long; told = λ x k. n.told x k ∙ h x k; kept = n.kept }
 
 -- the rows of a cut tile row, one after the other
 
--- the marks of the first width columns, m as the range gives their number, were set to 0
-module _ (d r : List ℕ) (w m : ℕ) (n : m ≡ w) (h : w ≤ length d) (s : r ≡ replicate (length (take m d)) 0) where
+-- the marks of the first width columns were set to 0
+module _ (d r : List ℕ) (w : ℕ) (h : w ≤ length d) (s : r ≡ replicate (length (take w d)) 0) where
   zeros : r ≡ replicate w 0
-  zeros = s ∙ ap (λ (k : ℕ). replicate {A = ℕ} k 0) (length-take-le m d (omega arith) ∙ n)
+  zeros = s ∙ ap (λ (k : ℕ). replicate {A = ℕ} k 0) (length-take-le w d h)
 
   long_zeros : length r ≡ w
   long_zeros = ap length zeros ∙ length-replicate {A = ℕ} w 0
 
-  pub cleared : (P : ℕ → Bool) → ((x : ℕ) → P x ≡ false) → Noted d (r ++ drop m d) w P
+  pub cleared : (P : ℕ → Bool) → ((x : ℕ) → P x ≡ false) → Noted d (r ++ drop w d) w P
   cleared P none =
       record {
-        long = length-append r (drop m d) ∙ (let l = length-drop m d in let k = long_zeros in omega arith);
+        long = length-append r (drop w d) ∙ (let l = length-drop w d in let k = long_zeros in omega arith);
         told = λ x k. ap tells (front x k) ∙ sym (none x);
         kept = behind;
       }
     where
-      front : (x : ℕ) → x < w → ◌≡◌ {A = ℕ} (get_or (r ++ drop m d) x 0) 0
-      front x k = get_or-append r (drop m d) 0 x (omega (arith, k, long_zeros)) ∙ ap (λ (l : List ℕ). get_or l x 0) zeros ∙ get_or-replicate w x 0 0 k
+      front : (x : ℕ) → x < w → ◌≡◌ {A = ℕ} (get_or (r ++ drop w d) x 0) 0
+      front x k = get_or-append r (drop w d) 0 x (omega (arith, k, long_zeros)) ∙ ap (λ (l : List ℕ). get_or l x 0) zeros ∙ get_or-replicate w x 0 0 k
 
-      behind : (x : ℕ) → w ≤ x → get_or (r ++ drop m d) x 0 ≡ get_or d x 0
+      behind : (x : ℕ) → w ≤ x → get_or (r ++ drop w d) x 0 ≡ get_or d x 0
       behind x k =
-          let e : m + (x - w) ≡ x = omega arith in
+          let e : w + (x - w) ≡ x = omega arith in
           let f : x ≡ length r + (x - w) = omega (arith, long_zeros) in
-          ap (λ (i : ℕ). get_or (r ++ drop m d) i 0) f ∙ get_or-append-add r (drop m d) (x - w) 0 ∙ get_or-drop m d (x - w) 0 ∙ ap (λ (i : ℕ). get_or d i 0) e
+          ap (λ (i : ℕ). get_or (r ++ drop w d) i 0) f ∙ get_or-append-add r (drop w d) (x - w) 0 ∙ get_or-drop w d (x - w) 0 ∙ ap (λ (i : ℕ). get_or d i 0) e
 
--- what is noted, as it stands; and over what was there before
-pub noted_here : (d e : List ℕ) (w : ℕ) (P : ℕ → Bool) → Noted d e w P → Noted e e w P
-noted_here d e w P n = record { long = refl; told = n.told; kept = λ x k. refl }
-
-pub noted_over : (d e f : List ℕ) (w : ℕ) (P Q : ℕ → Bool) → Noted d e w P → Noted e f w Q → Noted d f w Q
-noted_over d e f w P Q n m = record { long = m.long ∙ n.long; told = m.told; kept = λ x k. m.kept x k ∙ n.kept x k }
-
--- one row more, which begins at index from
-pub noted_row : (d e f : List ℕ) (w : ℕ) (p q : List ℕ) (at y from : ℕ) → from ≡ at + y * w
-    → Noted d e w (λ x. below w p q y (at + x)) → Noted e f w (λ x. tells (get_or e x 0) || changed p q (from + x))
+-- one row more
+pub noted_row : (d e f : List ℕ) (w : ℕ) (p q : List ℕ) (at y : ℕ)
+    → Noted d e w (λ x. below w p q y (at + x)) → Noted e f w (λ x. tells (get_or e x 0) || changed p q (at + y * w + x))
     → Noted d f w (λ x. below w p q (y + 1) (at + x))
 unfolding any
-noted_row d e f w p q at y from s n m =
+noted_row d e f w p q at y n m =
     record {
       long = m.long ∙ n.long;
       told =
@@ -151,56 +105,8 @@ noted_row d e f w p q at y from s n m =
       kept = λ x k. m.kept x k ∙ n.kept x k;
     }
   where
-    place : (x : ℕ) → from + x ≡ at + x + y * w
+    place : (x : ℕ) → at + y * w + x ≡ at + x + y * w
     place x = omega arith
-
--- the loop over the rows of a cut tile row: y of them are noted in e, d were the marks before the first, from is where the next one begins
-pub record Rows (d p q : List ℕ) (at w high : ℕ) (e : List ℕ) (from y : ℕ) : Type 0 where
-  pub within : y ≤ high
-  pub room : w ≤ length d
-  pub previous_long : at + high * w ≤ length p
-  pub next_long : at + high * w ≤ length q
-  pub place : from ≡ at + y * w
-  pub noted_so_far : Noted d e w (λ x. below w p q y (at + x))
-
-module _ (d p q : List ℕ) (at w high : ℕ) where
-  pub rows_first : (before : List ℕ) → w ≤ length before → Noted before d w (λ x. below w p q 0 (at + x)) → at + high * w ≤ length p
-      → at + high * w ≤ length q → Rows d p q at w high d at 0
-  rows_first before r n k l =
-      record {
-        within = omega arith;
-        room = omega (arith, n.long);
-        previous_long = k;
-        next_long = l;
-        place = omega arith;
-        noted_so_far = noted_here before d w (λ x. below w p q 0 (at + x)) n;
-      }
-
-  module _ (e : List ℕ) (from y : ℕ) (r : Rows d p q at w high e from y) where
-    -- the next row lies in both pictures
-    pub rows_fit : y < high → from + w ≤ at + high * w
-    rows_fit h =
-        let m = mul-le-mul_right w (let k : suc y ≤ high = omega arith in k) in
-        let s = suc-mul y w in
-        omega (arith, r.place)
-
-    pub rows_again : y < high → (f : List ℕ) → Noted e f w (λ x. tells (get_or e x 0) || changed p q (from + x)) → (to : ℕ) → to ≡ from + w
-        → Rows d p q at w high f to (y + 1)
-    rows_again h f n to s =
-        let m = add-mul y 1 w in
-        record {
-          within = omega arith;
-          room = r.room;
-          previous_long = r.previous_long;
-          next_long = r.next_long;
-          place = omega (arith, r.place);
-          noted_so_far = noted_row d e f w p q at y from r.place r.noted_so_far n;
-        }
-
-    pub rows_done : high ≤ y → (before : List ℕ) (P : ℕ → Bool) → Noted before d w P → Noted before e w (λ x. below w p q high (at + x))
-    rows_done h before P n =
-        let s : y ≡ high = omega (arith, r.within) in
-        noted_over before d e w P (λ x. below w p q high (at + x)) n (subst (λ (k : ℕ). Noted d e w (λ x. below w p q k (at + x))) s r.noted_so_far)
 
 -- n rows below k rows lie in a picture that has as many
 pub rows_inside : (w h k n : ℕ) → k + n ≤ h → k * w + n * w ≤ w * h

@@ -11,7 +11,7 @@ ghost use Rattle.board_tiles.specs.Marks.{BITS, word_of, marked, last_of, tile_r
 ghost use Rattle.board_tiles.specs.Mapping.{tile_word, tile_words, tile_map};
 ghost use Rattle.board_tiles.specs.Noted.{tells, below, column_changed, noted, Noted, Room, Made};
 
-use answer::{Refusal, Written};
+use answer::{Refusal, Refused};
 
 // A tile is 8 pixels wide and high.
 const TILE: usize = 8;
@@ -28,80 +28,104 @@ pub struct TileRow {
     pub last: u32,
 }
 
-// Not 0 exactly if the pixel of that index is changed.
-fn differs(previous: &[u8], next: &[u8], at: usize) -> u8
-    requires { (at < length previous.now) × (at < length next.now) }
-    ensures { tells result ≡ changed previous.now next.now at }
-{
-    previous[at] ^ next[at]
+// Two pictures of one size, and whether they differ where.
+#[derive(Clone, Copy)]
+struct Pair<'a> {
+    previous: &'a [u8],
+    next: &'a [u8],
+    width: usize,
+    height: usize,
+    ghost sized: { Sized width height },
+    ghost previous_long: { width * height ≤ length previous.now },
+    ghost next_long: { width * height ≤ length next.now },
 }
 
-// Not 0 exactly if one of eight pixels below each other is changed.
-fn eight_differ(previous: &[u8], next: &[u8], at: usize, width: usize) -> u8
-    requires { (at + 7 * width < length previous.now) × (at + 7 * width < length next.now) }
-    ensures { tells result ≡ below width previous.now next.now tile at }
-{
-    differs(previous, next, at)
-        | differs(previous, next, at + width)
-        | differs(previous, next, at + 2 * width)
-        | differs(previous, next, at + 3 * width)
-        | differs(previous, next, at + 4 * width)
-        | differs(previous, next, at + 5 * width)
-        | differs(previous, next, at + 6 * width)
-        | differs(previous, next, at + 7 * width)
-}
-
-// Notes the columns of eight rows of pixels that begin at index at: sixteen columns at a time, as it is compiled, each pixel looked at once.
-fn note_eight(marks: &mut [u8], previous: &[u8], next: &[u8], at: usize, width: usize)
-    requires { (width ≤ length marks.old) × (at + tile * width ≤ length previous.now) × (at + tile * width ≤ length next.now) }
-    ensures { Noted marks.old marks.new width (λ x. below width previous.now next.now tile (at + x)) }
-{
-    let mut x = 0;
-    while x < width {
-        marks[x] = eight_differ(previous, next, at + x, width);
-        x = x + 1;
+impl Pair<'_> {
+    // Not 0 exactly if the pixel of that index is changed.
+    fn differs(self, at: usize) -> u8
+        requires { at < self.width * self.height }
+        ensures { tells result ≡ changed self.entry.previous.now self.entry.next.now at }
+    {
+        self.previous[at] ^ self.next[at]
     }
-}
 
-// Notes the columns of one row more, which begins at index at.
-fn note_row(marks: &mut [u8], previous: &[u8], next: &[u8], at: usize, width: usize)
-    requires { (width ≤ length marks.old) × (at + width ≤ length previous.now) × (at + width ≤ length next.now) }
-    ensures { Noted marks.old marks.new width (λ x. tells (get_or marks.old x 0) || changed previous.now next.now (at + x)) }
-{
-    let mut x = 0;
-    while x < width {
-        marks[x] = marks[x] | differs(previous, next, at + x);
-        x = x + 1;
+    // Not 0 exactly if one of eight pixels below each other is changed.
+    fn eight_differ(self, at: usize) -> u8
+        requires { at + 7 * self.width < self.width * self.height }
+        ensures { tells result ≡ below self.entry.width self.entry.previous.now self.entry.next.now tile at }
+    {
+        let mut m = 0;
+        for y in 0..TILE {
+            m |= self.differs(at + y * self.width);
+        }
+        m
     }
-}
 
-// Notes the columns of fewer rows, as the bottom row of tiles may have.
-fn note_rows(marks: &mut [u8], previous: &[u8], next: &[u8], at: usize, width: usize, high: usize)
-    requires { (width ≤ length marks.old) × (at + high * width ≤ length previous.now) × (at + high * width ≤ length next.now) }
-    ensures { Noted marks.old marks.new width (λ x. below width previous.now next.now high (at + x)) }
-{
-    words::fill(&mut marks[0..width], 0);
-    let mut from = at;
-    let mut y = 0;
-    while y < high {
-        note_row(marks, previous, next, from, width);
-        from = from + width;
-        y = y + 1;
+    // Notes the columns of eight rows of pixels that begin at index at: sixteen columns at a time, as it is compiled, each pixel looked at once.
+    fn note_eight(self, marks: &mut [u8], at: usize)
+        requires { (self.width ≤ length marks.old) × (at + tile * self.width ≤ self.width * self.height) }
+        ensures { Noted marks.old marks.new self.entry.width (λ x. below self.entry.width self.entry.previous.now self.entry.next.now tile (at + x)) }
+    {
+        for x in 0..self.width {
+            marks[x] = self.eight_differ(at + x);
+        }
     }
-}
 
-// Notes the columns of tile row j.
-fn note_tiles(marks: &mut [u8], previous: &[u8], next: &[u8], width: usize, height: usize, j: usize)
-    requires { Sized width height × (width ≤ length marks.old) × (width * height ≤ length previous.now) × (width * height ≤ length next.now) × (tile * j < height) }
-    ensures { Noted marks.old marks.new width (column_changed width height previous.now next.now j) }
-{
-    let top = TILE * j;
-    let at = top * width;
-    if height < top + TILE {
-        note_rows(marks, previous, next, at, width, height - top);
-        return;
+    // Notes the columns of one row more, which begins at index at.
+    fn note_row(self, marks: &mut [u8], at: usize)
+        requires { (self.width ≤ length marks.old) × (at + self.width ≤ self.width * self.height) }
+        ensures { Noted marks.old marks.new self.entry.width (λ x. tells (get_or marks.old x 0) || changed self.entry.previous.now self.entry.next.now (at + x)) }
+    {
+        for x in 0..self.width {
+            marks[x] |= self.differs(at + x);
+        }
     }
-    note_eight(marks, previous, next, at, width);
+
+    // Notes the columns of fewer rows, as the bottom row of tiles may have.
+    fn note_rows(self, marks: &mut [u8], at: usize, high: usize)
+        requires { (self.width ≤ length marks.old) × (at + high * self.width ≤ self.width * self.height) }
+        ensures { Noted marks.old marks.new self.entry.width (λ x. below self.entry.width self.entry.previous.now self.entry.next.now high (at + x)) }
+    {
+        words::fill(&mut marks[..self.width], 0);
+        for y in 0..high {
+            self.note_row(marks, at + y * self.width);
+        }
+    }
+
+    // Notes the columns of tile row j.
+    fn note_tiles(self, marks: &mut [u8], j: usize)
+        requires { (self.width ≤ length marks.old) × (tile * j < self.height) }
+        ensures { Noted marks.old marks.new self.entry.width (column_changed self.entry.width self.entry.height self.entry.previous.now self.entry.next.now j) }
+    {
+        let top = TILE * j;
+        let at = top * self.width;
+        if self.height < top + TILE {
+            self.note_rows(marks, at, self.height - top);
+        } else {
+            self.note_eight(marks, at);
+        }
+    }
+
+    // The word of tile row j. marks: room for its columns.
+    fn word_at(self, marks: &mut [u8], j: usize) -> u64
+        requires { Room marks.old self.width × (tile * j < self.height) }
+        ensures { Made result (tile_word self.entry.width self.entry.height self.entry.previous.now self.entry.next.now j) marks.new self.entry.width }
+    {
+        self.note_tiles(marks, j);
+        word_of(marks, self.width.div_ceil(TILE))
+    }
+
+    // Stores the words of all tile rows.
+    fn store_words(self, words: &mut [u64])
+        requires { tiles self.height ≤ length words.old }
+        ensures { words.new ≡ put words.old 0 (tile_words self.entry.width self.entry.height self.entry.previous.now self.entry.next.now) }
+    {
+        // Memory of fixed size, as no heap is used.
+        let mut marks = [0; COLUMNS];
+        for j in 0..self.height.div_ceil(TILE) {
+            words[j] = self.word_at(&mut marks, j);
+        }
+    }
 }
 
 // Whether one of the eight columns of tile i is noted.
@@ -109,15 +133,10 @@ fn tile_noted(marks: &[u8], i: usize) -> bool
     requires { tile * i + tile ≤ length marks.now }
     ensures { result ≡ noted marks.now i }
 {
-    let at = TILE * i;
-    let m = marks[at]
-        | marks[at + 1]
-        | marks[at + 2]
-        | marks[at + 3]
-        | marks[at + 4]
-        | marks[at + 5]
-        | marks[at + 6]
-        | marks[at + 7];
+    let mut m = 0;
+    for a in 0..TILE {
+        m |= marks[TILE * i + a];
+    }
     m != 0
 }
 
@@ -126,53 +145,14 @@ fn word_of(marks: &[u8], count: usize) -> u64
     requires { (count ≤ BITS) × (tile * count ≤ length marks.now) }
     ensures { result ≡ word_of (noted marks.now) count }
 {
-    let mut word = 0u64;
-    let mut i = count;
-    while i > 0 {
-        i = i - 1;
-        word = word + word;
+    let mut word = 0;
+    for i in (0..count).rev() {
+        word += word;
         if tile_noted(marks, i) {
-            word = word + 1;
+            word += 1;
         }
     }
     word
-}
-
-// The word of tile row j. marks: room for its columns.
-fn word_at(
-    marks: &mut [u8],
-    previous: &[u8],
-    next: &[u8],
-    width: usize,
-    height: usize,
-    j: usize,
-) -> u64
-    requires { Sized width height × Room marks.old width × (width * height ≤ length previous.now) × (width * height ≤ length next.now) × (tile * j < height) }
-    ensures { Made result (tile_word width height previous.now next.now j) marks.new width }
-{
-    note_tiles(marks, previous, next, width, height, j);
-    word_of(marks, (width + 7) / TILE)
-}
-
-// Room for the columns of a row of tiles.
-fn room() -> [u8; COLUMNS]
-    ensures { Room result 0 }
-{
-    [0; COLUMNS]
-}
-
-// Stores the words of all tile rows.
-fn store_words(words: &mut [u64], previous: &[u8], next: &[u8], width: usize, height: usize)
-    requires { Sized width height × (width * height ≤ length previous.now) × (width * height ≤ length next.now) × (tiles height ≤ length words.old) }
-    ensures { words.new ≡ put words.old 0 (tile_words width height previous.now next.now) }
-{
-    let mut marks = room();
-    let count = (height + 7) / TILE;
-    let mut j = 0;
-    while j < count {
-        words[j] = word_at(&mut marks, previous, next, width, height, j);
-        j = j + 1;
-    }
 }
 
 // The map of a picture's tiles: a word for each tile row; done tells how many.
@@ -182,25 +162,31 @@ pub fn tile_map(
     previous: &[u8],
     next: &[u8],
     words: &mut [u64],
-) -> Written
+) -> Result<usize, Refused>
     ensures { leaves (told_written result) (lent_bytes words.new) ≡ tile_map width height previous.now next.now words.old }
 {
     if !format::size_ok(width, height) {
-        return Written::Refused(Refusal::BadSize, 0);
+        return Err(Refused(Refusal::BadSize, 0));
     }
     let area = width * height;
     if previous.len() < area {
-        return Written::Refused(Refusal::ShortSlice, 0);
+        return Err(Refused(Refusal::ShortSlice, 0));
     }
     if next.len() < area {
-        return Written::Refused(Refusal::ShortSlice, 0);
+        return Err(Refused(Refusal::ShortSlice, 0));
     }
-    let count = (height + 7) / TILE;
+    let count = height.div_ceil(TILE);
     if words.len() < count {
-        return Written::Refused(Refusal::NoRoom, 0);
+        return Err(Refused(Refusal::NoRoom, 0));
     }
-    store_words(words, previous, next, width, height);
-    Written::Done(count)
+    let pair = Pair {
+        previous,
+        next,
+        width,
+        height,
+    };
+    pair.store_words(words);
+    Ok(count)
 }
 
 // The last marked tile of a word.
@@ -210,7 +196,7 @@ fn last_of(word: u64) -> u32
     if word == 0 {
         return 64;
     }
-    63 - u64::leading_zeros(word)
+    63 - word.leading_zeros()
 }
 
 // The number of marked tiles of a word, the first and the last.
@@ -218,8 +204,8 @@ pub fn tile_row(word: u64) -> TileRow
     ensures { result ≡ tile_row word }
 {
     TileRow {
-        count: u64::count_ones(word),
-        first: u64::trailing_zeros(word),
+        count: word.count_ones(),
+        first: word.trailing_zeros(),
         last: last_of(word),
     }
 }

@@ -1,22 +1,20 @@
 -- What a caller in C holds after a call: numbers, and the memory that was lent.
-use Rattle.std.specs.Prelude.{ℕ, ◌*◌, ◌≤◌, ◌≡◌, List, [], ◌∷◌, not, cond, leb, eqb, length}
+use Rattle.std.specs.Prelude.{ℕ, ◌*◌, ◌≤◌, ◌≡◌, List, [], ◌∷◌, Result, Ok, Err, not, cond, leb, eqb, length}
 use Rattle.format.specs.Limits.{size_of, format_from, format_number}
 use Rattle.words.specs.Words.{require◌else◌then◌}
 use Rattle.answer.specs.Answer.{Said, done, refused, number}
+use Rattle.answer.specs.declared.Refusal.{Refusal}
 use Rattle.answer.specs.declared.Refusal.TheVariants.{BadHeader}
 use Rattle.delay.specs.Delay.{jiffies, in_milliseconds}
-use Rattle.delay.specs.declared.Converted.{Converted}
-use Rattle.delay.specs.declared.Converted.TheVariants.{Fits, TooLong}
+use Rattle.delay.specs.declared.Jiffies.{Jiffies}
+use Rattle.delay.specs.declared.TooLong.{TooLong}
 use Rattle.state.specs.Outcome.{Memory, Outcome}
-use Rattle.chunks.specs.declared.Next.{Next}
-use Rattle.chunks.specs.declared.Next.TheVariants as next
+use Rattle.chunks.specs.Spans.{Next}
 use Rattle.house_rows.specs.declared.RowCost.{RowCost}
-use Rattle.house_rows.specs.declared.RowCost.TheVariants as cost
 use Rattle.house_rows.specs.Search.{search_row}
-use Rattle.reel_header.specs.declared.Head.{Head}
-use Rattle.reel_header.specs.declared.Head.TheVariants as head
+use Rattle.reel_header.specs.Head.{Headed}
 use Rattle.reel_build.specs.declared.Reel.{Reel}
-use Rattle.reel_build.specs.Record.{ReelOutcome}
+use Rattle.reel_build.specs.Record.{Built, ReelOutcome}
 use Rattle.board_player.specs.declared.Player.{Player}
 use Rattle.board_player.specs.Player.{PlayerOutcome}
 use Rattle.capi.specs.declared.Record.{Record}
@@ -69,6 +67,11 @@ abbrev pub record_of : Said → Reel → Record → Record
 record_of (done v) after handed = record_for after
 record_of (refused n place) after handed = handed
 
+-- the same, by what the call gives
+abbrev pub record_after : Record → Built → Record
+record_after handed (Ok r) = record_for r
+record_after handed (Err e) = handed
+
 -- no reel: what a refused open gives
 abbrev pub nothing : Record
 nothing = record { width = 0; height = 0; frames = 0; end = 0; closed = 0; format = 0 }
@@ -79,15 +82,16 @@ pub record HeldReel (number place : ℕ) (after handed : Record) (m : Memory) (o
   pub record_is : after ≡ record_of o.left.said o.reel handed
 
 -- a reel's header: its fields, the speed in milliseconds, or the refusal with place 0 and all fields 0
-abbrev pub header_for : Head → ReelHeader
-header_for (head.Fault e) = record { number = number e; place = 0; width = 0; height = 0; frames = 0; size = 0; speed = 0; format = 0 }
-header_for (head.Reel z frames size speed) =
-    record { number = 0; place = 0; width = z.width; height = z.height; frames = frames; size = size; speed = speed.0; format = format_number z.format }
+abbrev pub header_for : Headed → ReelHeader
+header_for (Err e) = record { number = number e; place = 0; width = 0; height = 0; frames = 0; size = 0; speed = 0; format = 0 }
+header_for (Ok h) =
+    let z = h.picture in
+    record { number = 0; place = 0; width = z.width; height = z.height; frames = h.frames; size = h.size; speed = h.speed.0; format = format_number z.format }
 
 -- where the next frame begins and ends, or the refusal with its place and both 0
 abbrev pub span_for : Next → FrameSpan
-span_for (next.Fault e place) = record { number = number e; place = place; from = 0; end = 0 }
-span_for (next.Frame from end) = record { number = 0; place = 0; from = from; end = end }
+span_for (Err r) = record { number = number r.0; place = r.1; from = 0; end = 0 }
+span_for (Ok f) = record { number = 0; place = 0; from = f.from; end = f.end }
 
 -- "jiffies over 65,535 is 14" (document 02, Req 06): place and delay are 0
 abbrev pub too_long : DelayAnswer
@@ -100,14 +104,14 @@ milliseconds_for n =
     record { number = 0; place = 0; delay = (in_milliseconds (jiffies n)).0 }
 
 -- what milliseconds are in jiffies
-abbrev pub jiffies_for : Converted → DelayAnswer
-jiffies_for TooLong = too_long
-jiffies_for (Fits j) = record { number = 0; place = 0; delay = j.0 }
+abbrev pub jiffies_for : Result Jiffies TooLong → DelayAnswer
+jiffies_for (Err e) = too_long
+jiffies_for (Ok j) = record { number = 0; place = 0; delay = j.0 }
 
 -- a row's bytes and turns, or the refusal with place 0 and both 0
-abbrev pub figures_for : RowCost → RowFigures
-figures_for (cost.Fault e) = record { number = number e; place = 0; bytes = 0; turns = 0 }
-figures_for (cost.Cost bytes turns) = record { number = 0; place = 0; bytes = bytes; turns = turns }
+abbrev pub figures_for : Result RowCost Refusal → RowFigures
+figures_for (Err e) = record { number = number e; place = 0; bytes = 0; turns = 0 }
+figures_for (Ok cost) = record { number = 0; place = 0; bytes = cost.bytes; turns = cost.turns }
 
 -- what is held after a row was searched: these, and "at most 16 turns for each pixel of the row"
 pub record HeldCost (r : RowFigures) (row : List ℕ) : Type 0 where

@@ -1,4 +1,5 @@
-// The entry points for C (include/flic.h), and nothing else: numbers, slices and plain structs. A slice is a pointer and then a length.
+// The entry points for C (include/flic.h), and nothing else: numbers, slices and plain structs. A slice is a pointer and then a length. Numbers stand for refusals,
+// formats, events and a closed reel, since C reads them so.
 #![tactic(auto)]
 
 ghost use Rattle.std.specs.Prelude.{◌≡◌};
@@ -6,6 +7,7 @@ ghost use Rattle.format.specs.Limits.{size_of, format_from};
 ghost use Rattle.delay.specs.Delay.{milliseconds, in_jiffies};
 ghost use Rattle.reel_header.specs.declared.Takes.TheVariants.{Both};
 ghost use Rattle.answer.specs.Answer.{told, told_written};
+ghost use Rattle.reel_build.specs.Record.{told_built};
 ghost use Rattle.state.specs.State.{state};
 ghost use Rattle.state.specs.Outcome.{lent_bytes, lent_pair, lent_bytes_pair, lent_pairs, lent_bytes_pairs};
 ghost use Rattle.chunks.specs.declared.Layout.TheVariants.{Loose};
@@ -20,21 +22,21 @@ ghost use Rattle.reel_close.specs.Closing.{close_reel};
 ghost use Rattle.reel_trailer.specs.Trailer.{check_trailer, write_trailer};
 ghost use Rattle.list_chunks.specs.Listing.{list};
 ghost use Rattle.board_clock.specs.Replay.{replayed};
-ghost use Rattle.board_player.specs.Player.{told_tick};
+ghost use Rattle.board_player.specs.Player.{told_tick, no_player};
 ghost use Rattle.board_player.specs.Ticking.{tick};
 ghost use Rattle.board_player.specs.Starting.{start_player};
 ghost use Rattle.board_tiles.specs.Marks.{tile_row};
 ghost use Rattle.board_tiles.specs.Mapping.{tile_map};
-ghost use Rattle.capi.specs.Capi.{header_for, span_for, HeldCost, length_of, event_of, nothing, reel_from, record_for, record_of, Told, Held, HeldLength, HeldReel, HeldPlayer, HeldTick, too_long, milliseconds_for, jiffies_for};
+ghost use Rattle.capi.specs.Capi.{header_for, span_for, HeldCost, length_of, event_of, nothing, reel_from, record_for, record_after, Told, Held, HeldLength, HeldReel, HeldPlayer, HeldTick, too_long, milliseconds_for, jiffies_for};
 
-use board_player::{Player, Ticked};
+use answer::{Refusal, Refused};
+use board_player::{Event, Player};
 use board_tiles::TileRow;
-use chunks::Next;
-use delay::{Converted, Jiffies, Milliseconds};
-use format::Size;
-use house_rows::RowCost;
-use reel_build::{Built, Reel};
-use reel_header::{Head, Takes};
+use delay::{Jiffies, Milliseconds};
+use format::{Format, Size};
+use reel_build::Reel;
+use reel_header::Takes;
+use state::Pair;
 
 // Number 0: done. Otherwise the refusal's number and place.
 #[repr(C)]
@@ -135,35 +137,39 @@ pub struct TickAnswer {
     pub event: u32,
 }
 
-fn answer_for_c(a: answer::Answer) -> Answered
-    ensures { Told result.number result.place (told a) }
-{
-    match a {
-        answer::Answer::Done => Answered {
-            number: 0,
-            place: 0,
-        },
-        answer::Answer::Refused(e, place) => Answered {
-            number: answer::number_of(e),
-            place: place as u64,
-        },
+impl From<Result<(), Refused>> for Answered {
+    ghost from_gives = { λ a result. Told result.number result.place (told a) };
+
+    fn from(a: Result<(), Refused>) -> Answered {
+        match a {
+            Ok(()) => Answered {
+                number: 0,
+                place: 0,
+            },
+            Err(Refused(e, place)) => Answered {
+                number: u32::from(e),
+                place: place as u64,
+            },
+        }
     }
 }
 
-fn written_for_c(a: answer::Written) -> Delivered
-    ensures { Told result.number result.place (told_written a) × (result.length ≡ length_of (told_written a)) }
-{
-    match a {
-        answer::Written::Done(count) => Delivered {
-            number: 0,
-            place: 0,
-            length: count as u64,
-        },
-        answer::Written::Refused(e, place) => Delivered {
-            number: answer::number_of(e),
-            place: place as u64,
-            length: 0,
-        },
+impl From<Result<usize, Refused>> for Delivered {
+    ghost from_gives = { λ a result. Told result.number result.place (told_written a) × (result.length ≡ length_of (told_written a)) };
+
+    fn from(a: Result<usize, Refused>) -> Delivered {
+        match a {
+            Ok(count) => Delivered {
+                number: 0,
+                place: 0,
+                length: count as u64,
+            },
+            Err(Refused(e, place)) => Delivered {
+                number: u32::from(e),
+                place: place as u64,
+                length: 0,
+            },
+        }
     }
 }
 
@@ -173,7 +179,7 @@ fn size_from_c(format: u32, width: usize, height: usize) -> Size
     Size {
         width,
         height,
-        format: format::format_from(format),
+        format: Format::from(format),
     }
 }
 
@@ -192,7 +198,7 @@ pub extern "C" fn flic_read_frame(
 {
     let size = size_from_c(format, width, height);
     let a = read_frame::read_frame(bytes, size, picture, palette);
-    answer_for_c(a)
+    Answered::from(a)
 }
 
 // Writes the frame that leads from the previous picture and palette to the next.
@@ -213,13 +219,17 @@ pub extern "C" fn flic_write_frame(
     let size = size_from_c(format, width, height);
     let a = house_frame::write_frame(
         size,
-        previous_picture,
-        previous_palette,
-        next_picture,
-        next_palette,
+        Pair {
+            picture: previous_picture,
+            palette: previous_palette,
+        },
+        Pair {
+            picture: next_picture,
+            palette: next_palette,
+        },
         out,
     );
-    written_for_c(a)
+    Delivered::from(a)
 }
 
 // Searches one row for its least packets.
@@ -228,17 +238,17 @@ pub extern "C" fn flic_search_row(row: &[u8]) -> RowFigures
     ensures { HeldCost result row.now }
 {
     match house_rows::search_row(row) {
-        RowCost::Fault(e) => RowFigures {
-            number: answer::number_of(e),
+        Err(e) => RowFigures {
+            number: u32::from(e),
             place: 0,
             bytes: 0,
             turns: 0,
         },
-        RowCost::Cost { bytes, turns } => RowFigures {
+        Ok(cost) => RowFigures {
             number: 0,
             place: 0,
-            bytes: bytes as u64,
-            turns: turns as u64,
+            bytes: cost.bytes as u64,
+            turns: cost.turns as u64,
         },
     }
 }
@@ -263,63 +273,60 @@ pub extern "C" fn flic_rewrite_frame(
     let a = house_rewrite::rewrite_frame(
         bytes,
         size,
-        previous_picture,
-        previous_palette,
+        Pair {
+            picture: previous_picture,
+            palette: previous_palette,
+        },
         work_picture,
         work_palette,
         out,
     );
-    written_for_c(a)
+    Delivered::from(a)
 }
 
-fn reel_from_c(r: Record) -> Reel
-    ensures { result ≡ reel_from r }
-{
-    Reel {
-        size: size_from_c(r.format, r.width as usize, r.height as usize),
-        frames: r.frames as usize,
-        end: r.end as usize,
-        closed: r.closed != 0,
+impl From<Record> for Reel {
+    ghost from_gives = { λ r reel. reel ≡ reel_from r };
+
+    fn from(r: Record) -> Reel {
+        Reel {
+            size: size_from_c(r.format, r.width as usize, r.height as usize),
+            frames: r.frames as usize,
+            end: r.end as usize,
+            closed: r.closed != 0,
+        }
     }
 }
 
-fn record_for_c(r: Reel) -> Record
-    ensures { result ≡ record_for r }
-{
-    let mut closed = 0;
-    if r.closed {
-        closed = 1;
-    }
-    let size = r.size;
-    let format = size.format;
-    Record {
-        width: size.width as u64,
-        height: size.height as u64,
-        frames: r.frames as u64,
-        end: r.end as u64,
-        closed,
-        format: format::format_number(format),
+impl From<Reel> for Record {
+    ghost from_gives = { λ reel r. r ≡ record_for reel };
+
+    fn from(reel: Reel) -> Record {
+        Record {
+            width: reel.size.width as u64,
+            height: reel.size.height as u64,
+            frames: reel.frames as u64,
+            end: reel.end as u64,
+            closed: u32::from(reel.closed),
+            format: u32::from(reel.size.format),
+        }
     }
 }
 
-fn built_for_c(a: Built, handed: Record) -> Recorded
-    ensures { Told result.number result.place (told a.answer) × (result.reel ≡ record_of (told a.answer) a.reel handed) }
+// A reel after a call that was handed this record.
+fn built_for_c(a: Result<Reel, Refused>, handed: Record) -> Recorded
+    ensures { Told result.number result.place (told_built a) × (result.reel ≡ record_after handed a) }
 {
-    let answer = a.answer;
-    match answer {
-        answer::Answer::Refused(e, place) => Recorded {
-            number: answer::number_of(e),
+    match a {
+        Ok(reel) => Recorded {
+            number: 0,
+            place: 0,
+            reel: Record::from(reel),
+        },
+        Err(Refused(e, place)) => Recorded {
+            number: u32::from(e),
             place: place as u64,
             reel: handed,
         },
-        answer::Answer::Done => {
-            let reel = a.reel;
-            Recorded {
-                number: 0,
-                place: 0,
-                reel: record_for_c(reel),
-            }
-        }
     }
 }
 
@@ -342,7 +349,7 @@ pub extern "C" fn flic_check_reel(
         second_picture,
         second_palette,
     );
-    answer_for_c(a)
+    Answered::from(a)
 }
 
 // No record.
@@ -401,12 +408,16 @@ pub extern "C" fn flic_add_frame(
         (add_frame (reel_from reel) bytes.old (state shown_picture.now shown_palette.now) (state next_picture.now next_palette.now)) }
 {
     let a = reel_build::add_frame(
-        reel_from_c(reel),
+        Reel::from(reel),
         bytes,
-        shown_picture,
-        shown_palette,
-        next_picture,
-        next_palette,
+        Pair {
+            picture: shown_picture,
+            palette: shown_palette,
+        },
+        Pair {
+            picture: next_picture,
+            palette: next_palette,
+        },
     );
     built_for_c(a, reel)
 }
@@ -425,7 +436,7 @@ pub extern "C" fn flic_close_reel(
         (close_reel (reel_from reel) bytes.old (state first_picture.old first_palette.old) (state second_picture.old second_palette.old)) }
 {
     let a = reel_close::close_reel(
-        reel_from_c(reel),
+        Reel::from(reel),
         bytes,
         first_picture,
         first_palette,
@@ -441,7 +452,7 @@ pub extern "C" fn flic_check_trailer(bytes: &[u8]) -> Answered
     ensures { Told result.number result.place (check_trailer bytes.now) }
 {
     let a = reel_trailer::check_trailer(bytes);
-    answer_for_c(a)
+    Answered::from(a)
 }
 
 // Writes index and trailer behind a reel.
@@ -450,7 +461,7 @@ pub extern "C" fn flic_write_trailer(bytes: &mut [u8]) -> Delivered
     ensures { HeldLength result.number result.place result.length (lent_bytes bytes.new) (write_trailer bytes.old) }
 {
     let a = reel_trailer::write_trailer(bytes);
-    written_for_c(a)
+    Delivered::from(a)
 }
 
 // Lists the chunks of a reel as text.
@@ -459,7 +470,7 @@ pub extern "C" fn flic_list(bytes: &[u8], out: &mut [u8]) -> Delivered
     ensures { HeldLength result.number result.place result.length (lent_bytes out.new) (list bytes.now out.old) }
 {
     let a = list_chunks::list_into(bytes, out);
-    written_for_c(a)
+    Delivered::from(a)
 }
 
 // Reads the header of a reel.
@@ -468,8 +479,8 @@ pub extern "C" fn flic_read_header(bytes: &[u8]) -> ReelHeader
     ensures { result ≡ header_for (head_of Both bytes.now) }
 {
     match reel_header::head_of(Takes::Both, bytes) {
-        Head::Fault(e) => ReelHeader {
-            number: answer::number_of(e),
+        Err(e) => ReelHeader {
+            number: u32::from(e),
             place: 0,
             width: 0,
             height: 0,
@@ -478,24 +489,16 @@ pub extern "C" fn flic_read_header(bytes: &[u8]) -> ReelHeader
             speed: 0,
             format: 0,
         },
-        Head::Reel {
-            picture,
-            frames,
-            size,
-            speed,
-        } => {
-            let format = picture.format;
-            ReelHeader {
-                number: 0,
-                place: 0,
-                width: picture.width as u64,
-                height: picture.height as u64,
-                frames: frames as u64,
-                size: size as u64,
-                speed: speed.0,
-                format: format::format_number(format),
-            }
-        }
+        Ok(head) => ReelHeader {
+            number: 0,
+            place: 0,
+            width: head.picture.width as u64,
+            height: head.picture.height as u64,
+            frames: head.frames as u64,
+            size: head.size as u64,
+            speed: head.speed.0,
+            format: u32::from(head.picture.format),
+        },
     }
 }
 
@@ -505,17 +508,17 @@ pub extern "C" fn flic_next_frame(bytes: &[u8], at: usize) -> FrameSpan
     ensures { result ≡ span_for (next_at Loose bytes.now at) }
 {
     match chunks::next_at(bytes, at) {
-        Next::Fault(e, place) => FrameSpan {
-            number: answer::number_of(e),
+        Err(Refused(e, place)) => FrameSpan {
+            number: u32::from(e),
             place: place as u64,
             from: 0,
             end: 0,
         },
-        Next::Frame { from, end } => FrameSpan {
+        Ok(frame) => FrameSpan {
             number: 0,
             place: 0,
-            from: from as u64,
-            end: end as u64,
+            from: frame.from as u64,
+            end: frame.end as u64,
         },
     }
 }
@@ -525,7 +528,7 @@ fn too_long() -> DelayAnswer
     ensures { result ≡ too_long }
 {
     DelayAnswer {
-        number: answer::number_of(answer::Refusal::BadHeader),
+        number: u32::from(Refusal::BadHeader),
         place: 0,
         delay: 0,
     }
@@ -539,11 +542,10 @@ pub extern "C" fn flic_in_milliseconds(jiffies: u32) -> DelayAnswer
     if jiffies > 65535 {
         return too_long();
     }
-    let converted = delay::in_milliseconds(Jiffies(jiffies as u16));
     DelayAnswer {
         number: 0,
         place: 0,
-        delay: converted.0,
+        delay: Milliseconds::from(Jiffies(jiffies as u16)).0,
     }
 }
 
@@ -552,13 +554,30 @@ pub extern "C" fn flic_in_milliseconds(jiffies: u32) -> DelayAnswer
 pub extern "C" fn flic_in_jiffies(delay: u32) -> DelayAnswer
     ensures { result ≡ jiffies_for (in_jiffies (milliseconds delay)) }
 {
-    match delay::in_jiffies(Milliseconds(delay)) {
-        Converted::TooLong => too_long(),
-        Converted::Fits(converted) => DelayAnswer {
+    match Jiffies::try_from(Milliseconds(delay)) {
+        Ok(jiffies) => DelayAnswer {
             number: 0,
             place: 0,
-            delay: converted.0 as u32,
+            delay: u32::from(jiffies.0),
         },
+        Err(_) => too_long(),
+    }
+}
+
+// No player: the zeros that C gets of a refused start.
+fn no_player() -> Player
+    ensures { result ≡ no_player }
+{
+    Player {
+        width: 0,
+        height: 0,
+        frames: 0,
+        number: 0,
+        place: 0,
+        second: 0,
+        speed: Milliseconds(0),
+        last: 0,
+        format: 0,
     }
 }
 
@@ -575,7 +594,7 @@ pub extern "C" fn flic_start_player(
     ensures { HeldPlayer result.number result.place result.player (lent_pairs (state first_picture.new first_palette.new) (state second_picture.new second_palette.new))
         (start_player bytes.now reading (state first_picture.old first_palette.old) (state second_picture.old second_palette.old)) }
 {
-    let s = board_player::start_player(
+    let started = board_player::start_player(
         bytes,
         reading,
         first_picture,
@@ -583,40 +602,36 @@ pub extern "C" fn flic_start_player(
         second_picture,
         second_palette,
     );
-    let answer = s.answer;
-    let player = s.player;
-    let a = answer_for_c(answer);
-    PlayerAnswer {
-        number: a.number,
-        place: a.place,
-        player,
+    match started {
+        Ok(player) => PlayerAnswer {
+            number: 0,
+            place: 0,
+            player,
+        },
+        Err(Refused(e, place)) => PlayerAnswer {
+            number: u32::from(e),
+            place: place as u64,
+            player: no_player(),
+        },
     }
 }
 
-fn tick_for_c(a: Ticked) -> TickAnswer
-    ensures { Told result.number result.place (told_tick a) × (result.event ≡ event_of (told_tick a)) }
-{
-    match a {
-        Ticked::Nothing => TickAnswer {
-            number: 0,
-            place: 0,
-            event: 0,
-        },
-        Ticked::Drawn => TickAnswer {
-            number: 0,
-            place: 0,
-            event: 1,
-        },
-        Ticked::SetBack => TickAnswer {
-            number: 0,
-            place: 0,
-            event: 2,
-        },
-        Ticked::Refused(e, place) => TickAnswer {
-            number: answer::number_of(e),
-            place: place as u64,
-            event: 0,
-        },
+impl From<Result<Event, Refused>> for TickAnswer {
+    ghost from_gives = { λ a result. Told result.number result.place (told_tick a) × (result.event ≡ event_of (told_tick a)) };
+
+    fn from(a: Result<Event, Refused>) -> TickAnswer {
+        match a {
+            Ok(event) => TickAnswer {
+                number: 0,
+                place: 0,
+                event: u32::from(event),
+            },
+            Err(Refused(e, place)) => TickAnswer {
+                number: u32::from(e),
+                place: place as u64,
+                event: 0,
+            },
+        }
     }
 }
 
@@ -633,7 +648,7 @@ pub extern "C" fn flic_tick(
         (tick player.old bytes.now reading (state picture.old palette.old)) }
 {
     let a = board_player::tick(player, bytes, reading, picture, palette);
-    tick_for_c(a)
+    TickAnswer::from(a)
 }
 
 // Replays recorded readings.
@@ -648,7 +663,7 @@ pub extern "C" fn flic_replay(
     ensures { HeldLength result.number result.place result.length (lent_bytes numbers.new) (replayed speed frames start readings.now numbers.old) }
 {
     let a = board_clock::replay(speed, frames, start, readings, numbers);
-    written_for_c(a)
+    Delivered::from(a)
 }
 
 // Maps the tiles that have a changed pixel: a word for each row of tiles.
@@ -663,7 +678,7 @@ pub extern "C" fn flic_tile_map(
     ensures { HeldLength result.number result.place result.length (lent_bytes words.new) (tile_map width height previous_picture.now next_picture.now words.old) }
 {
     let a = board_tiles::tile_map(width, height, previous_picture, next_picture, words);
-    written_for_c(a)
+    Delivered::from(a)
 }
 
 // The marked tiles of a word: how many, the first and the last.

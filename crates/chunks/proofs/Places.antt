@@ -11,28 +11,22 @@ use borrow.Author.Tests.{le-leb, lt-leb, leb-true, leb-false, eqb-true, eqb-fals
 use lib.ListN.{length, take, drop, length-take, length-drop, length-append}
 use lib.Seq.{get_or-take, drop-drop, length-take-le, take_at}
 use lib.Dec.{leb, eqb}
+use Rattle.std.specs.Prelude.{Ok, Err}
 use Rattle.words.specs.Words.{u16_at, u32_at}
 use Rattle.words.proofs.There.{drop_word, drop_word32}
 use Rattle.words.proofs.Tests.{by_test}
 use Rattle.format.specs.Format.{FRAME_TYPE}
-use Rattle.answer.specs.declared.Refusal.{Refusal}
 use Rattle.answer.specs.declared.Refusal.TheVariants.{FewFrames, Cut, SmallSize}
-use Rattle.answer.specs.declared.Answer.{Answer}
-use Rattle.answer.specs.declared.Answer.TheVariants.{Done, Refused}
-use Rattle.chunks.specs.declared.FrameHeader.{FrameHeader}
-use Rattle.chunks.specs.declared.FrameHeader.TheVariants as whole
-use Rattle.chunks.specs.declared.Header.{Header}
-use Rattle.chunks.specs.declared.Header.TheVariants as chunk
 use Rattle.chunks.specs.declared.Layout.{Layout}
 use Rattle.chunks.specs.declared.Layout.TheVariants.{Loose, Packed}
-use Rattle.chunks.specs.declared.Next.{Next}
-use Rattle.chunks.specs.declared.Next.TheVariants.{Fault, Frame}
-use Rattle.chunks.specs.Headers.{header_at, frame_header}
-use Rattle.chunks.specs.Spans.{Span, span, Spans, walked, after_header, framed, top_at, left_after, spans, next_at}
+use Rattle.chunks.specs.Headers.{header_at, frame_header, chunk_to, whole_of, Header, Whole}
+use Rattle.chunks.specs.Spans.{Span, span, Spans, walked, after_header, framed, top_at, left_after, spans, next_at, frame_to, Next}
 use Rattle.chunks.proofs.Headers.{header_whole, header_in_lem, frame_whole, frame_in}
 use Rattle.chunks.proofs.Spans.{top_in, top_frame, top_other, top_packed, top_there, spans_none, spans_more, next_fault, next_here, next_past, next_by, spans_by}
+use Rattle.answer.specs.Answer.{refused_at, Answer}
+use Rattle.answer.specs.declared.Refused.{Refused}
 
-refused_not_done : {C : Type 0} {e : Refusal} {place : ℕ} → Refused e place ≡ Done → C
+refused_not_done : {C : Type 0} {r : Refused} → ◌≡◌ {A = Answer} (Err r) (Ok tt) → C
 refused_not_done q = let z : ◌≡◌ {A = ℕ} 0 1 = cc in absurd (omega arith)
 
 -- 1. in a prefix
@@ -46,7 +40,7 @@ unfolding u32_at
 word32_prefix n b i h = ap₂ (λ (x y : ℕ). x + 65536 * y) (word_prefix n b i (omega arith)) (word_prefix n b (i + 2) (omega arith))
 
 module _ (n : ℕ) (b : List ℕ) (at : ℕ) where
-  header_prefix : (kind end : ℕ) → header_at (take n b) at ≡ chunk.Chunk kind end → header_at b at ≡ chunk.Chunk kind end
+  header_prefix : (kind end : ℕ) → header_at (take n b) at ≡ Ok (chunk_to kind end) → header_at b at ≡ Ok (chunk_to kind end)
   header_prefix kind end q =
       let i = header_in_lem (take n b) at _ q in
       let l = length-take n b in
@@ -54,9 +48,9 @@ module _ (n : ℕ) (b : List ℕ) (at : ℕ) where
       ap (header_at b) refl
       ∙ sym (header_whole b at kind (u32_at (take n b) at) (i.2 ∙ word_prefix n b (at + 4) (omega (arith, i.0, i.1))) e
       (omega (arith, i.0, i.3)) (omega (arith, i.1, i.3)))
-      ∙ ap (λ (k : ℕ). chunk.Chunk kind k) (sym i.3)
+      ∙ ap (λ (k : ℕ). Ok (chunk_to kind k)) (sym i.3)
 
-  frame_prefix : (count size : ℕ) → frame_header (drop at (take n b)) ≡ whole.Frame count size → frame_header (drop at b) ≡ whole.Frame count size
+  frame_prefix : (count size : ℕ) → frame_header (drop at (take n b)) ≡ Ok (whole_of count size) → frame_header (drop at b) ≡ Ok (whole_of count size)
   frame_prefix count size q =
       let t = take n b in
       let i = frame_in (drop at t) _ q in
@@ -70,42 +64,42 @@ module _ (n : ℕ) (b : List ℕ) (at : ℕ) where
       sym (frame_whole (drop at b) count size (i.3 ∙ word 6 (omega arith)) (i.4 ∙ e) (omega (arith, i.0, i.1)) (sym (word 4 (omega arith)) ∙ i.2)
       (omega (arith, i.0, i.4, e)) (omega (arith, i.1, i.4, e)))
 
-  framed_prefix : (f : FrameHeader) → frame_header (drop at (take n b)) ≡ f → (kind end : ℕ) → framed at f ≡ chunk.Chunk kind end
-      → (layout : Layout) → top_at layout b at ≡ chunk.Chunk kind end
-  framed_prefix (whole.Fault e) q kind end r layout = let z : ◌≡◌ {A = ℕ} 0 1 = cc in absurd (omega arith)
-  framed_prefix (whole.Frame count size) q kind end r layout = top_there layout b at count size (frame_prefix count size q) ∙ r
+  framed_prefix : (f : Whole) → frame_header (drop at (take n b)) ≡ f → (kind end : ℕ) → framed at f ≡ Ok (chunk_to kind end)
+      → (layout : Layout) → top_at layout b at ≡ Ok (chunk_to kind end)
+  framed_prefix (Err e) q kind end r layout = let z : ◌≡◌ {A = ℕ} 0 1 = cc in absurd (omega arith)
+  framed_prefix (Ok h) q kind end r layout = top_there layout b at h.count h.size (frame_prefix h.count h.size q) ∙ r
 
-  loose_prefix : (kind end : ℕ) → top_at Loose (take n b) at ≡ chunk.Chunk kind end → top_at Loose b at ≡ chunk.Chunk kind end
+  loose_prefix : (kind end : ℕ) → top_at Loose (take n b) at ≡ Ok (chunk_to kind end) → top_at Loose b at ≡ Ok (chunk_to kind end)
   loose_prefix kind end q =
       let t = take n b in
       let i = top_in Loose t at _ q in
       let l = length-take n b in
       let same = word_prefix n b (at + 4) (omega (arith, i.0, i.1)) in
-      by_test (λ (x : Bool). top_at Loose b at ≡ chunk.Chunk kind end) (eqb (u16_at t (at + 4)) FRAME_TYPE)
+      by_test (λ (x : Bool). top_at Loose b at ≡ Ok (chunk_to kind end)) (eqb (u16_at t (at + 4)) FRAME_TYPE)
       (λ e. framed_prefix (frame_header (drop at t)) refl kind end
       (sym (top_packed t at _ refl) ∙ sym (top_frame t at (omega (arith, i.0, i.1)) (eqb-true (u16_at t (at + 4)) FRAME_TYPE e)) ∙ q) Loose)
       (λ e. let other = eqb-false (u16_at t (at + 4)) FRAME_TYPE e in
       top_other b at (omega (arith, i.0, i.1)) (λ k. other (same ∙ k))
       ∙ header_prefix kind end (sym (top_other t at (omega (arith, i.0, i.1)) other) ∙ q))
 
-  pub top_prefix : (layout : Layout) (kind end : ℕ) → top_at layout (take n b) at ≡ chunk.Chunk kind end → top_at layout b at ≡ chunk.Chunk kind end
+  pub top_prefix : (layout : Layout) (kind end : ℕ) → top_at layout (take n b) at ≡ Ok (chunk_to kind end) → top_at layout b at ≡ Ok (chunk_to kind end)
   top_prefix Packed kind end q = framed_prefix (frame_header (drop at (take n b))) refl kind end (sym (top_packed (take n b) at _ refl) ∙ q) Packed
   top_prefix Loose kind end q = loose_prefix kind end q
 
 -- a frame met in a prefix is met in the bytes
-pub next_prefix : (layout : Layout) (n : ℕ) (b : List ℕ) (at from end : ℕ) → next_at layout (take n b) at ≡ Frame from end → next_at layout b at
-    ≡ Frame from end
+pub next_prefix : (layout : Layout) (n : ℕ) (b : List ℕ) (at from end : ℕ) → next_at layout (take n b) at ≡ Ok (frame_to from end) → next_at layout b at
+    ≡ Ok (frame_to from end)
 next_prefix layout n b at from end =
-    next_by layout (take n b) (λ (k : ℕ) (x : Next). x ≡ Frame from end → next_at layout b k ≡ Frame from end)
+    next_by layout (take n b) (λ (k : ℕ) (x : Next). x ≡ Ok (frame_to from end) → next_at layout b k ≡ Ok (frame_to from end))
     (λ k e q r. let z : ◌≡◌ {A = ℕ} 0 1 = cc in absurd (omega arith))
     (λ k to q r. next_here layout b k to (top_prefix n b k layout FRAME_TYPE to q) ∙ r)
     (λ k kind to q other rest r. next_past layout b k kind to other (top_prefix n b k layout kind to q) ∙ rest r) at
 
 -- and so are all chunks of a walk that is done
-pub spans_prefix : (layout : Layout) (n : ℕ) (b : List ℕ) (count at : ℕ) → (spans layout (take n b) count at).answer ≡ Done
+pub spans_prefix : (layout : Layout) (n : ℕ) (b : List ℕ) (count at : ℕ) → (spans layout (take n b) count at).answer ≡ Ok tt
     → spans layout b count at ≡ spans layout (take n b) count at
 spans_prefix layout n b count at =
-    spans_by layout (take n b) (λ (m k : ℕ) (s : Spans). s.answer ≡ Done → spans layout b m k ≡ s)
+    spans_by layout (take n b) (λ (m k : ℕ) (s : Spans). s.answer ≡ Ok tt → spans layout b m k ≡ s)
     (λ k d. spans_none layout b k)
     (λ m k e q d. refused_not_done d)
     (λ m k kind end q rest d. spans_more layout b m k
@@ -113,9 +107,9 @@ spans_prefix layout n b count at =
     ∙ ap (λ (s : Spans). walked (span kind k end ∷ s.met) s.answer) (rest d)) count at
 
 -- the bytes of a frame alone have its header, whatever follows them
-pub frame_alone : (x more : List ℕ) (count size : ℕ) → frame_header x ≡ whole.Frame count size → frame_header (take size x ++ more) ≡ whole.Frame count size
+pub frame_alone : (x more : List ℕ) (count size : ℕ) → frame_header x ≡ Ok (whole_of count size) → frame_header (take size x ++ more) ≡ Ok (whole_of count size)
 frame_alone x more count size q =
-    let i = frame_in x (whole.Frame count size) q in
+    let i = frame_in x (Ok (whole_of count size)) q in
     let y = take size x ++ more in
     let l : length (take size x) ≡ size = length-take-le size x i.1 in
     let m = length-append (take size x) more in
@@ -130,16 +124,16 @@ frame_alone x more count size q =
 -- 2. in the rest
 
 abbrev pub moved_header : ℕ → Header → Header
-moved_header k (chunk.Fault e) = chunk.Fault e
-moved_header k (chunk.Chunk kind end) = chunk.Chunk kind (k + end)
+moved_header k (Err e) = Err e
+moved_header k (Ok c) = Ok (chunk_to c.kind (k + c.end))
 
 abbrev pub moved_next : ℕ → Next → Next
-moved_next k (Fault e place) = Fault e (k + place)
-moved_next k (Frame from end) = Frame (k + from) (k + end)
+moved_next k (Err r) = Err (refused_at r.0 (k + r.1))
+moved_next k (Ok f) = Ok (frame_to (k + f.from) (k + f.end))
 
 abbrev pub moved_answer : ℕ → Answer → Answer
-moved_answer k Done = Done
-moved_answer k (Refused e place) = Refused e (k + place)
+moved_answer k (Ok u) = Ok tt
+moved_answer k (Err r) = Err (refused_at r.0 (k + r.1))
 
 abbrev pub moved_met : ℕ → List Span → List Span
 moved_met k [] = []
@@ -168,7 +162,7 @@ module _ (b : List ℕ) (k at : ℕ) where
 
   -- the tests of a header, one after the other
   abbrev tested : Bool → Bool → Bool → ℕ → ℕ → Header
-  tested t s l kind end = cond t (cond s (cond l (chunk.Chunk kind end) (chunk.Fault Cut)) (chunk.Fault SmallSize)) (chunk.Fault Cut)
+  tested t s l kind end = cond t (cond s (cond l (Ok (chunk_to kind end)) (Err Cut)) (Err SmallSize)) (Err Cut)
 
   tested_moved : (t s l : Bool) (kind end : ℕ) → tested t s l kind (k + end) ≡ moved_header k (tested t s l kind end)
   tested_moved false s l kind end = refl
@@ -199,9 +193,9 @@ module _ (b : List ℕ) (k at : ℕ) where
       small true l m kind end = refl
       small false l m kind end = refl
 
-  framed_moved : (f : FrameHeader) → framed (k + at) f ≡ moved_header k (framed at f)
-  framed_moved (whole.Fault e) = refl
-  framed_moved (whole.Frame count size) = let e : k + at + size ≡ k + (at + size) = omega arith in ap (λ (n : ℕ). chunk.Chunk FRAME_TYPE n) e
+  framed_moved : (f : Whole) → framed (k + at) f ≡ moved_header k (framed at f)
+  framed_moved (Err e) = refl
+  framed_moved (Ok h) = let e : k + at + h.size ≡ k + (at + h.size) = omega arith in ap (λ (n : ℕ). Ok (chunk_to FRAME_TYPE n)) e
 
   frame_moved : framed (k + at) (frame_header (drop (k + at) b)) ≡ moved_header k (framed at (frame_header (drop at (drop k b))))
   frame_moved = ap (λ (x : List ℕ). framed (k + at) (frame_header x)) (sym (drop-drop at k b)) ∙ framed_moved (frame_header (drop at (drop k b)))
@@ -210,15 +204,15 @@ pub top_moved : (layout : Layout) (b : List ℕ) (k at : ℕ) → top_at layout 
 unfolding top_at
 top_moved Packed b k at = frame_moved b k at
 top_moved Loose b k at =
-    ap₂ (λ (t f : Bool). cond t (cond f (framed (k + at) (frame_header (drop (k + at) b))) (header_at b (k + at))) (chunk.Fault FewFrames))
+    ap₂ (λ (t f : Bool). cond t (cond f (framed (k + at) (frame_header (drop (k + at) b))) (header_at b (k + at))) (Err FewFrames))
     (there_moved (at + 6) (k + at + 6) k b (omega arith) (omega arith)) (ap (λ (x : ℕ). eqb x FRAME_TYPE) (word_moved b k at))
     ∙ ap₂ (λ (x y : Header). cond (leb (at + 6) (length (drop k b))) (cond (eqb (u16_at (drop k b) (at + 4)) FRAME_TYPE) x y)
-    (chunk.Fault FewFrames)) (frame_moved b k at) (header_moved b k at)
+    (Err FewFrames)) (frame_moved b k at) (header_moved b k at)
     ∙ by (leb (at + 6) (length (drop k b))) (eqb (u16_at (drop k b) (at + 4)) FRAME_TYPE) (framed at (frame_header (drop at (drop k b))))
     (header_at (drop k b) at)
   where
-    by : (t f : Bool) (x y : Header) → cond t (cond f (moved_header k x) (moved_header k y)) (chunk.Fault FewFrames)
-        ≡ moved_header k (cond t (cond f x y) (chunk.Fault FewFrames))
+    by : (t f : Bool) (x y : Header) → cond t (cond f (moved_header k x) (moved_header k y)) (Err FewFrames)
+        ≡ moved_header k (cond t (cond f x y) (Err FewFrames))
     by false f x y = refl
     by true false x y = refl
     by true true x y = refl
@@ -235,8 +229,8 @@ pub spans_moved : (layout : Layout) (b : List ℕ) (k count at : ℕ) → spans 
 spans_moved layout b k count at =
     spans_by layout (drop k b) (λ (m i : ℕ) (s : Spans). spans layout b m (k + i) ≡ moved k s)
     (λ i. spans_none layout b (k + i))
-    (λ m i e q. one m i (chunk.Fault e) q)
-    (λ m i kind end q rest. one m i (chunk.Chunk kind end) q ∙ ap (λ (s : Spans). walked (span kind (k + i) (k + end) ∷ s.met) s.answer) rest) count at
+    (λ m i e q. one m i (Err e) q)
+    (λ m i kind end q rest. one m i (Ok (chunk_to kind end)) q ∙ ap (λ (s : Spans). walked (span kind (k + i) (k + end) ∷ s.met) s.answer) rest) count at
   where
     one : (m i : ℕ) (x : Header) → top_at layout (drop k b) i ≡ x
         → spans layout b (suc m) (k + i) ≡ after_header (k + i) (moved_header k x) (λ kind end. spans layout b (left_after kind m) end)

@@ -3,12 +3,12 @@ use mathlib.Core.Path.{◌≡◌, ap}
 use Prim.Native.Nat.{ℕ, ◌+◌, ◌*◌, ◌/◌}
 use native.Mathlib.Omega.{arith}
 use borrow.Author.Tests.{le-leb}
+use Rattle.std.specs.Prelude.{Ok}
 use Rattle.delay.specs.Delay.{jiffies}
 use Rattle.delay.specs.Kept.{JiffiesKept}
-use Rattle.delay.specs.declared.Converted.TheVariants.{Fits}
 
 same : (n : ℕ) → (70 * (1000 * n / 70) + 999) / 1000 ≡ n
 same n = omega arith
 
 pub jiffies_kept : JiffiesKept
-jiffies_kept n i = let e = same n in rw (le-leb ((70 * (1000 * n / 70) + 999) / 1000) 65535 (omega arith)) (ap (λ (k : ℕ). Fits (jiffies k)) e)
+jiffies_kept n i = let e = same n in rw (le-leb ((70 * (1000 * n / 70) + 999) / 1000) 65535 (omega arith)) (ap (λ (k : ℕ). Ok (jiffies k)) e)

@@ -1,5 +1,5 @@
 // Delays from frame to frame: an FLI's header has jiffies of 1/70 second, an FLC's and a player milliseconds (document 02, Req 06). The
-// two functions below are the only way from one to the other.
+// two conversions below are the only way from one to the other.
 #![tactic(auto)]
 
 ghost use Rattle.std.specs.Prelude.{◌≡◌};
@@ -14,27 +14,29 @@ pub struct Jiffies(pub u16);
 #[derive(Clone, Copy)]
 pub struct Milliseconds(pub u32);
 
-// A delay in jiffies, if two bytes hold it.
+// A delay that two bytes don't hold as jiffies.
 #[derive(Clone, Copy)]
-pub enum Converted {
-    Fits(Jiffies),
-    TooLong,
-}
+pub struct TooLong;
 
 // Jiffies as milliseconds, rounded down.
-pub fn in_milliseconds(delay: Jiffies) -> Milliseconds
-    ensures { result ≡ in_milliseconds delay }
-{
-    Milliseconds(1000 * (delay.0 as u32) / 70)
+impl From<Jiffies> for Milliseconds {
+    ghost from_gives = { λ delay result. result ≡ in_milliseconds delay };
+
+    fn from(delay: Jiffies) -> Milliseconds {
+        Milliseconds(1000 * u32::from(delay.0) / 70)
+    }
 }
 
 // Milliseconds as jiffies, rounded up.
-pub fn in_jiffies(delay: Milliseconds) -> Converted
-    ensures { result ≡ in_jiffies delay }
-{
-    let jiffies = (70 * (delay.0 as usize) + 999) / 1000;
-    if jiffies > 65535 {
-        return Converted::TooLong;
+impl TryFrom<Milliseconds> for Jiffies {
+    type Error = TooLong;
+
+    ghost try_from_gives = { λ delay result. result ≡ in_jiffies delay };
+
+    fn try_from(delay: Milliseconds) -> Result<Jiffies, TooLong> {
+        match u16::try_from((70 * u64::from(delay.0) + 999) / 1000) {
+            Ok(jiffies) => Ok(Jiffies(jiffies)),
+            Err(_) => Err(TooLong),
+        }
     }
-    Converted::Fits(Jiffies(jiffies as u16))
 }

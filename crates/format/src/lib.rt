@@ -61,6 +61,7 @@ pub fn raised_level(x: u8) -> u8
 }
 
 // Which of the two formats a frame or a reel has.
+// Matches on it stand where the definitions have the same two cases.
 #[derive(Clone, Copy)]
 pub enum Format {
     Flc,
@@ -68,22 +69,26 @@ pub enum Format {
 }
 
 // The format that a number at the C boundary stands for: 0 FLC, any other FLI.
-pub fn format_from(number: u32) -> Format
-    ensures { result ≡ format_from number }
-{
-    if number == 0 {
-        return Format::Flc;
+impl From<u32> for Format {
+    ghost from_gives = { λ number format. format ≡ format_from number };
+
+    fn from(number: u32) -> Format {
+        if number == 0 {
+            return Format::Flc;
+        }
+        Format::Fli
     }
-    Format::Fli
 }
 
 // The number of a format.
-pub fn format_number(format: Format) -> u32
-    ensures { result ≡ format_number format }
-{
-    match format {
-        Format::Flc => 0,
-        Format::Fli => 1,
+impl From<Format> for u32 {
+    ghost from_gives = { λ format number. number ≡ format_number format };
+
+    fn from(format: Format) -> u32 {
+        match format {
+            Format::Flc => 0,
+            Format::Fli => 1,
+        }
     }
 }
 
@@ -115,8 +120,7 @@ pub fn size_ok(width: usize, height: usize) -> bool
 pub fn size_fits(size: Size) -> bool
     ensures { result ≡ size_fits size }
 {
-    let format = size.format;
-    match format {
+    match size.format {
         Format::Flc => size_ok(size.width, size.height),
         Format::Fli => {
             if size.width != FLI_WIDTH {

@@ -8,6 +8,7 @@ use borrow.Author.Tests.{le-leb}
 use lib.Dec.{leb}
 use lib.ListN.{length, take, drop}
 use lib.Seq.{take_at}
+use Rattle.std.specs.Prelude.{Ok}
 use Rattle.words.specs.Words.{Bytes}
 use Rattle.words.specs.Writes.{put}
 use Rattle.words.proofs.Laws.{put_front, bytes_take}
@@ -16,7 +17,6 @@ use Rattle.format.specs.Limits.{size_fits, area}
 use Rattle.format.specs.declared.Size.{Size}
 use Rattle.answer.specs.Answer.{Said, done}
 use Rattle.answer.specs.declared.Refusal.TheVariants.{NoRoom}
-use Rattle.answer.specs.declared.Answer.TheVariants.{Done}
 use Rattle.state.specs.State.{State, state, enough, front, refilled}
 use Rattle.state.specs.Outcome.{Outcome, lent_bytes, lent_pair, leaves, refuse, fitted}
 use Rattle.state.proofs.Laws.{front_exact, passed}
@@ -85,7 +85,7 @@ module _ (z : Size) (previous next : State) where
         let front-is : take n (write_frame z previous next out).memory.bytes ≡ f =
         ap₂ (λ (k : ℕ) (x : List ℕ). take k x) i.many (i.bytes ∙ put_front out f) ∙ take_at f (drop (length f) out) (length f) refl in
         ap (λ (x : List ℕ). read_frame x z previous) front-is
-        ∙ read_by_lem f z previous i.size i.previous_long Done back.done
+        ∙ read_by_lem f z previous i.size i.previous_long (Ok tt) back.done
         ∙ ap₂ (λ (p q : List ℕ). leaves (done []) (lent_pair (refilled (area z) (state p q) previous))) back.picture back.palette
 
   pub demand2 : Demand2 z previous next

@@ -6,23 +6,21 @@ use Prim.Native.Nat.{ℕ, suc, ◌+◌, ◌-◌, ◌/◌, ◌%◌, ◌<◌}
 use native.Mathlib.Omega.{arith}
 use lib.ListN.{length, take, drop, length-append}
 use lib.Seq.{take_all}
+use Rattle.std.specs.Prelude.{Ok}
 use Rattle.words.specs.Words.{u32_at, part, le16, le32, chunk}
 use Rattle.words.specs.Writes.{applied}
 use Rattle.words.proofs.Laws.{applied_append, length_chunk}
 use Rattle.words.proofs.There.{there_drop, there_take, there_long, there_le16, there_le32}
 use Rattle.format.specs.Format.{FRAME_TYPE}
 use Rattle.format.specs.declared.Size.{Size}
-use Rattle.walk.specs.declared.Verdict.{Verdict}
-use Rattle.answer.specs.declared.Answer.TheVariants.{Done}
 use Rattle.read_chunk.specs.Chunk.{ChunkWalk, sub_chunk}
 use Rattle.read_frame.specs.Frame.{FrameWalk, stop, answer_after, writes_after, chunk_then, sub_chunks, frame}
-use Rattle.chunks.specs.Headers.{header_at, frame_header}
-use Rattle.chunks.specs.declared.FrameHeader.TheVariants.{Frame}
-use Rattle.chunks.specs.declared.Header.TheVariants.{Chunk}
+use Rattle.chunks.specs.Headers.{header_at, frame_header, chunk_to, whole_of}
 use Rattle.read_frame.proofs.Laws.{chunks_none, chunks_more, frame_as}
 use Rattle.chunks.proofs.Headers.{header_whole, frame_whole}
 use Rattle.house_frame.specs.House.{framed}
 use Rattle.house_back.specs.Plays.{Acts, Plays}
+use Rattle.walk.specs.Walk.{Verdict}
 
 -- sub-chunks that turn p and q into p' and q', one after the other
 pub data Subs (z : Size) : List (List ℕ) → List ℕ → List ℕ → List ℕ → List ℕ → Type 0 where
@@ -33,7 +31,7 @@ pub data Subs (z : Size) : List (List ℕ) → List ℕ → List ℕ → List �
 plays_as : {f g : FrameWalk} {p q p' q' : List ℕ} → f ≡ g → Plays g p q p' q' → Plays f p q p' q'
 plays_as {f} {g} {p} {q} {p'} {q'} e x = subst (λ (k : FrameWalk). Plays k p q p' q') (sym e) x
 
-plays_none : (p q : List ℕ) → Plays (stop Done) p q p q
+plays_none : (p q : List ℕ) → Plays (stop (Ok tt)) p q p q
 unfolding applied
 plays_none p q = record { done = refl; picture = refl; palette = refl }
 
@@ -66,7 +64,7 @@ module _ (b : List ℕ) (at kind : ℕ) (body more : List ℕ) (there : drop at 
   pub chunk_size : u32_at b at ≡ 6 + length body
   chunk_size = there_le32 b (le16 kind (body ++ more)) at (6 + length body) small bytes
 
-  pub chunk_there : header_at b at ≡ Chunk kind (at + (6 + length body))
+  pub chunk_there : header_at b at ≡ Ok (chunk_to kind (at + (6 + length body)))
   chunk_there =
       let n = 6 + length body in
       let size = chunk_size in
@@ -114,7 +112,7 @@ module _ (subs : List (List ℕ)) (small : 16 + length (flatten subs) < 42949672
     field_before =
         there_le32 (framed subs ++ more) (le16 FRAME_TYPE (le16 (length subs) reserved)) 0 (16 + length (flatten subs)) small refl ∙ sym (length_framed subs)
 
-    pub header_before : frame_header (framed subs ++ more) ≡ Frame (length subs) (length (framed subs))
+    pub header_before : frame_header (framed subs ++ more) ≡ Ok (whole_of (length subs) (length (framed subs)))
     unfolding framed
     header_before =
         let b = framed subs ++ more in
@@ -126,7 +124,7 @@ module _ (subs : List (List ℕ)) (small : 16 + length (flatten subs) < 42949672
   pub framed_field : u32_at (framed subs) 0 ≡ length (framed subs)
   framed_field = ap (λ (x : List ℕ). u32_at x 0) (sym (append-nil (framed subs))) ∙ field_before []
 
-  pub framed_header : frame_header (framed subs) ≡ Frame (length subs) (length (framed subs))
+  pub framed_header : frame_header (framed subs) ≡ Ok (whole_of (length subs) (length (framed subs)))
   framed_header = ap frame_header (sym (append-nil (framed subs))) ∙ header_before []
 
   pub framed_subs : drop 16 (framed subs) ≡ flatten subs
@@ -139,6 +137,6 @@ pub framed_plays : (z : Size) (subs : List (List ℕ)) (p q p' q' : List ℕ) �
 framed_plays z subs p q p' q' small s =
     let b = framed subs in
     plays_as
-    (frame_as z b (Frame (length subs) (length b)) (framed_header subs small)
+    (frame_as z b (Ok (whole_of (length subs) (length b))) (framed_header subs small)
     ∙ ap (λ (x : List ℕ). sub_chunks z x (length subs) 16) (take_all (length b) b (omega arith)))
     (chunks_play z b s 16 (framed_subs subs small))

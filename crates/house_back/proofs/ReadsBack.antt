@@ -9,6 +9,7 @@ use native.Mathlib.Omega.{arith}
 use lib.Dec.{leb, ltb}
 use lib.ListN.{length}
 use borrow.Author.Tests.{leb-true, ltb-true}
+use Rattle.std.specs.Prelude.{Ok}
 use Rattle.words.specs.Words.{chunk, same, Bytes}
 use Rattle.words.specs.Writes.{applied}
 use Rattle.words.proofs.Laws.{length_chunk, same_eq}
@@ -20,7 +21,7 @@ use Rattle.format.specs.declared.Format.{Format}
 use Rattle.format.specs.declared.Format.TheVariants.{Flc, Fli}
 use Rattle.format.specs.declared.Size.{Size}
 use Rattle.format.specs.Format.{FLI_COLOR256, FLI_BLACK, FLI_BRUN, FLI_COPY}
-use Rattle.walk.specs.Walk.{Walk}
+use Rattle.walk.specs.Walk.{Walk, Verdict}
 use Rattle.walk.proofs.Gives.{Gives}
 use Rattle.read_colour.specs.Colour.{colour}
 use Rattle.read_colour.specs.declared.Levels.TheVariants.{Of256}
@@ -29,8 +30,6 @@ use Rattle.read_brun.specs.Brun.{brun}
 use Rattle.read_chunk.specs.Chunk.{ChunkWalk, judged, on_picture, on_palette, by_kind, kind_ok, sub_chunk}
 use Rattle.read_frame.specs.Frame.{frame}
 use Rattle.read_frame.specs.Reading.{played}
-use Rattle.walk.specs.declared.Verdict.{Verdict}
-use Rattle.walk.specs.declared.Verdict.TheVariants.{Ends}
 use Rattle.read_chunk.proofs.Laws.{judged_right, chunk_by}
 use Rattle.read_frame.proofs.Sound.{frame_sound, played_exact}
 use Rattle.house_colour.specs.Colours.{colour_body}
@@ -48,7 +47,7 @@ use Rattle.house_back.proofs.Frames.{Subs, none, sub, length_framed, framed_play
 
 -- a walk on the picture or on the palette
 
-no_spare : {v : Verdict} (end : ℕ) → v ≡ Ends end → judged end v ≡ Ends end
+no_spare : {v : Verdict} (end : ℕ) → v ≡ Ok end → judged end v ≡ Ok end
 no_spare end e = ap (judged end) e ∙ judged_right end end (omega arith)
 
 -- of a body with no byte behind its data

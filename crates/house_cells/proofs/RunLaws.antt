@@ -4,7 +4,7 @@ use mathlib.Core.List.{List, [], ◌∷◌, ◌++◌, flat_map}
 use mathlib.Core.Bool.{Bool, true, false, not, cond}
 use Prim.Native.Nat.{ℕ, zero, suc, ◌+◌, ◌-◌, ◌*◌, ◌≤◌, ◌<◌}
 use native.Mathlib.Omega.{arith}
-use native.Mathlib.Nat.{add-sub_cancel_left, mul-le-mul_right}
+use native.Mathlib.Nat.{add-sub_cancel_left}
 use lib.ListN.{length, take, drop, drop_of_length-le}
 use Rattle.words.specs.Words.{same}
 use Rattle.words.proofs.Laws.{same_eq}
@@ -20,7 +20,7 @@ run_front : (t : Sought) (b : Bool) (c : Cell) (cs : List Cell) → is_sought t 
 unfolding run
 run_front t b c cs e = ap (λ (s : Bool). cond s (suc (run t cs)) 0) e
 
-run_nil : (t : Sought) → run t [] ≡ 0
+pub run_nil : (t : Sought) → run t [] ≡ 0
 unfolding run
 run_nil t = refl
 
@@ -149,38 +149,26 @@ module _ (r : Bool) (p q : List ℕ) (at k : ℕ) (e : r ≡ same (take (at + k 
 
 module _ (p q : List ℕ) (k n i : ℕ) (t : Sought) where
   -- the run from cell i on has come to cell j
-  pub record Running (j at : ℕ) : Type 0 where
-    pub low : i ≤ j
-    pub high : j ≤ n
-    pub place : at ≡ j * k
+  pub record Running (j : ℕ) : Type 0 where
     pub so_far : run t (drop i (cells k n p q)) + i ≡ j + run t (drop j (cells k n p q))
 
-  -- the cell at j, at offset at, is sought (s), or not
-  module _ (j at : ℕ) (s : Bool) (r : Running j at) (h : j < n) (e : s ≡ is_sought t (same (take k (drop at p)) (take k (drop at q)))) where
-    pub next_place : at + k ≤ n * k
-    next_place = omega (arith, mul-le-mul_right k h, r.place)
-
+  -- the cell at j is sought (s), or not
+  module _ (j : ℕ) (s : Bool) (r : Running j) (h : j < n) (e : s ≡ is_sought t (same (take k (drop (j * k) p)) (take k (drop (j * k) q)))) where
     here : (b : Bool) → s ≡ b → run t (drop j (cells k n p q)) ≡ cond b (suc (run t (drop (suc j) (cells k n p q)))) 0
     here b f =
         ap (run t) (cell_at k n j p q h)
-        ∙ run_front t b (record { old = take k (drop (j * k) p); new = take k (drop (j * k) q) }) (drop (suc j) (cells k n p q))
-        (ap (λ (x : ℕ). is_sought t (same (take k (drop x p)) (take k (drop x q)))) (sym r.place) ∙ sym e ∙ f)
+        ∙ run_front t b (record { old = take k (drop (j * k) p); new = take k (drop (j * k) q) }) (drop (suc j) (cells k n p q)) (sym e ∙ f)
 
-    pub running_on : s ≡ true → Running (j + 1) (at + k)
+    pub running_on : s ≡ true → Running (j + 1)
     running_on f =
         let z : j + 1 ≡ suc j = omega arith in
-        record {
-          low = omega (arith, r.low);
-          high = omega arith;
-          place = omega (arith, r.place);
-          so_far = omega (arith, r.so_far, here true f, ap (λ (x : ℕ). run t (drop x (cells k n p q))) z);
-        }
+        record { so_far = omega (arith, r.so_far, here true f, ap (λ (x : ℕ). run t (drop x (cells k n p q))) z) }
 
-    pub running_stops : s ≡ false → (j - i ≡ run t (drop i (cells k n p q))) × (i + (j - i) ≤ n)
-    running_stops f = (omega (arith, r.so_far, r.low, here false f), omega (arith, r.low))
+    pub running_stops : i ≤ j → s ≡ false → (j - i ≡ run t (drop i (cells k n p q))) × (i + (j - i) ≤ n)
+    running_stops low f = (omega (arith, r.so_far, here false f), omega arith)
 
-  pub running_ends : (j at : ℕ) → Running j at → n ≤ j → (j - i ≡ run t (drop i (cells k n p q))) × (i + (j - i) ≤ n)
-  running_ends j at r h =
+  pub running_ends : (j : ℕ) → Running j → i ≤ n → j ≡ n → (n - i ≡ run t (drop i (cells k n p q))) × (i + (n - i) ≤ n)
+  running_ends j r low h =
       let none : run t (drop j (cells k n p q)) ≡ 0 = ap (run t) (drop_of_length-le (cells k n p q) {i = j} (omega (arith, length_cells k n p q)))
       ∙ run_nil t in
-      (omega (arith, r.so_far, r.low), omega (arith, r.low, r.high))
+      (omega (arith, r.so_far), omega arith)

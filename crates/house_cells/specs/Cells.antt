@@ -1,9 +1,10 @@
 -- Two lists of bytes side by side, and where they differ: rows of a picture, pairs of a row, entries of a palette.
-use Rattle.std.specs.Prelude.{ℕ, zero, suc, ◌+◌, ◌*◌, ◌≤◌, ◌≡◌, Bool, true, false, not, cond, take, drop}
+use Rattle.std.specs.Prelude.{ℕ, zero, suc, ◌+◌, ◌-◌, ◌*◌, ◌≤◌, ◌≡◌, Option, None, Some, Bool, true, false, not, cond, take, drop}
 use mathlib.Core.List.{List, [], ◌∷◌, flat_map}
 use Rattle.words.specs.Words.{same}
 use Rattle.house_cells.specs.declared.Sought.{Sought}
 use Rattle.house_cells.specs.declared.Sought.TheVariants.{Unchanged, Changed}
+use Rattle.house_cells.specs.declared.Span.{Span}
 
 -- some bytes as they were and as they are to be
 pub record Cell : Type 0 where
@@ -65,3 +66,8 @@ pub record Next (k n : ℕ) (a b : List ℕ) (i g m : ℕ) : Type 0 where
   pub gap : g ≡ run Unchanged (drop i (cells k n a b))
   pub changed : m ≡ run Changed (drop (i + g) (cells k n a b))
   pub inside : i + g + m ≤ n
+
+-- the same if there is one; where none is left, all cells from cell i on are unchanged
+abbrev pub NextOf : ℕ → ℕ → List ℕ → List ℕ → ℕ → Option Span → Type 0
+NextOf k n a b i (Some s) = (1 ≤ s.changed) × Next k n a b i s.gap s.changed
+NextOf k n a b i None = Next k n a b i (n - i) 0

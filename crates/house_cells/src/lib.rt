@@ -4,9 +4,10 @@
 ghost use Rattle.std.specs.Prelude.{◌≡◌, ◌∷◌, ◌+◌, ◌*◌, ◌≤◌, ◌<◌, length, take, drop};
 ghost use Rattle.words.specs.Words.{same};
 ghost use Rattle.words.specs.Writes.{put};
-ghost use Rattle.house_cells.specs.Cells.{cells, is_sought, run, Next};
+ghost use Rattle.house_cells.specs.Cells.{cells, is_sought, run, NextOf};
 
 // Which cells are looked for.
+// A plain value in definitions and laws: no closure.
 #[derive(Clone, Copy)]
 pub enum Sought {
     Unchanged,
@@ -38,29 +39,26 @@ pub fn run_of(p: &[u8], q: &[u8], k: usize, n: usize, i: usize, sought: Sought) 
     requires { (i ≤ n) × (n * k ≤ length p.now) × (n * k ≤ length q.now) }
     ensures { (result ≡ run sought (drop i (cells k n p.now q.now))) × (i + result ≤ n) }
 {
-    let mut j = i;
-    let mut at = i * k;
-    while j < n {
-        if !found(p, q, at, k, sought) {
+    for j in i..n {
+        if !found(p, q, j * k, k, sought) {
             return j - i;
         }
-        j += 1;
-        at += k;
     }
-    j - i
+    n - i
 }
 
-// The next stretch of n cells of k bytes, from cell i on.
-pub fn next_stretch(p: &[u8], q: &[u8], k: usize, n: usize, i: usize) -> Span
+// The next stretch of n cells of k bytes, from cell i on, if one is left.
+pub fn next_stretch(p: &[u8], q: &[u8], k: usize, n: usize, i: usize) -> Option<Span>
     requires { (i ≤ n) × (n * k ≤ length p.now) × (n * k ≤ length q.now) }
-    ensures { Next k n p.now q.now i result.gap result.changed }
+    ensures { NextOf k n p.now q.now i result }
 {
     let gap = run_of(p, q, k, n, i, Sought::Unchanged);
-    let changed = run_of(p, q, k, n, i + gap, Sought::Changed);
-    Span {
-        gap: gap,
-        changed: changed,
+    let start = i + gap;
+    if start == n {
+        return None;
     }
+    let changed = run_of(p, q, k, n, start, Sought::Changed);
+    Some(Span { gap, changed })
 }
 
 // Stores a packet, the bytes x and y and then its data; answers where it ends.

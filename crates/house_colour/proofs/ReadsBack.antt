@@ -9,14 +9,14 @@ use native.Mathlib.Omega.{arith}
 use native.Mathlib.Nat.{add-zero}
 use lib.ListN.{length, take, drop, get_or, length-append}
 use lib.Seq.{take_all}
+use Rattle.std.specs.Prelude.{Ok}
 use Rattle.words.specs.Words.{le16}
 use Rattle.words.specs.Writes.{put}
 use Rattle.words.proofs.There.{there_drop, there_take, there_byte, there_long, there_le16, put_at}
 use Rattle.walk.proofs.Gives.{Gives, gives_ends, gives_then, gives_as, gives_to}
 use Rattle.read_colour.specs.Colour as walk
-use Rattle.read_colour.specs.Colour.{level, levels_ok, count_of, packet_at}
+use Rattle.read_colour.specs.Colour.{level, levels_ok, count_of, packet_at, colours_at}
 use Rattle.read_colour.specs.declared.Levels.TheVariants.{Of256}
-use Rattle.read_colour.specs.declared.ColourStep.TheVariants.{Colours}
 use Rattle.read_colour.proofs.Laws.{packet_at_lem, packet_whole, packets_more, packets_none, colours_open}
 use Rattle.words.proofs.Runs.{map_same}
 use Rattle.house_cells.specs.Cells.{Cell, cells, news, Stretch, stretches}
@@ -55,7 +55,7 @@ module _ (b : List ℕ) where
       let all = there_long b (k ∷ c ∷ (v ++ more)) at (2 + 3 * m) there (omega arith) (omega arith) in
       let skip : get_or b at 0 ≡ k = ap (λ (j : ℕ). get_or b j 0) (sym (add-zero at)) ∙ there_byte b (k ∷ c ∷ (v ++ more)) at 0 k there refl in
       let count : get_or b (at + 1) 0 ≡ c = there_byte b (k ∷ c ∷ (v ++ more)) at 1 c there refl in
-      let whole : Colours (at + 2) (3 * (i + k)) (3 * m) (i + k + m) ≡ packet_at Of256 b at i =
+      let whole : Ok (colours_at (at + 2) (3 * (i + k)) (3 * m) (i + k + m)) ≡ packet_at Of256 b at i =
       sym (packet_whole Of256 b at (i + k) m (omega arith) fits (levels_all (take (3 * m) (drop (at + 2) b))))
       ∙ packet_at_lem Of256 b at i (i + k) m two (ap (λ (j : ℕ). i + j) (sym skip)) (sym em ∙ ap count_of (sym count)) in
       let px : map (level Of256) (take (3 * m) (drop (at + 2) b)) ≡ v = map_same (level Of256) level_same (take (3 * m) (drop (at + 2) b))

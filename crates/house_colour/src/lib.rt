@@ -13,14 +13,12 @@ pub fn colour_size(previous: &[u8], next: &[u8]) -> usize
 {
     let mut i = 0;
     let mut size = 0;
-    loop {
-        let s = house_cells::next_stretch(previous, next, 3, 256, i);
-        if s.changed == 0 {
-            return 2 + size;
-        }
+    // A cursor that steps by stretches.
+    while let Some(s) = house_cells::next_stretch(previous, next, 3, 256, i) {
         size += 2 + s.changed * 3;
-        i = i + s.gap + s.changed;
+        i += s.gap + s.changed;
     }
+    2 + size
 }
 
 // Stores the packets of the colour body; answers how many they are.
@@ -33,17 +31,15 @@ fn put_packets(out: &mut [u8], at: usize, previous: &[u8], next: &[u8]) -> usize
     let mut i = 0;
     let mut here = at;
     let mut count = 0;
-    loop {
-        let s = house_cells::next_stretch(previous, next, 3, 256, i);
-        if s.changed == 0 {
-            return count;
-        }
+    // A cursor that steps by stretches.
+    while let Some(s) = house_cells::next_stretch(previous, next, 3, 256, i) {
         let a = (i + s.gap) * 3;
         let e = a + s.changed * 3;
         here = house_cells::put_packet(out, here, s.gap, s.changed % 256, &next[a..e]);
         count += 1;
-        i = i + s.gap + s.changed;
+        i += s.gap + s.changed;
     }
+    count
 }
 
 // Writes the colour body.

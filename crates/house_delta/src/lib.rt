@@ -8,7 +8,7 @@ ghost use Rattle.house_delta.specs.Delta.{delta_kind, delta_body, delta_most};
 
 use format::{Format, Size};
 
-// The kind of a delta.
+// The kind of a delta, as the number that its header gets.
 pub fn delta_kind(format: Format) -> usize
     ensures { result ≡ delta_kind format }
 {
@@ -23,8 +23,7 @@ pub fn delta_size(previous: &[u8], next: &[u8], size: Size) -> usize
     requires { Picture size.width size.height previous.now × Picture size.width size.height next.now }
     ensures { (result ≡ length (delta_body size previous.now next.now)) × (result ≤ delta_most) }
 {
-    let format = size.format;
-    match format {
+    match size.format {
         Format::Flc => house_ss2::delta_size(previous, next, size.width, size.height),
         Format::Fli => house_lc::delta_size(previous, next, size.width, size.height),
     }
@@ -36,8 +35,7 @@ pub fn write_delta(out: &mut [u8], at: usize, previous: &[u8], next: &[u8], size
         × (at + length (delta_body size previous.now next.now) ≤ length out.old) }
     ensures { out.new ≡ put out.old at (delta_body size previous.now next.now) }
 {
-    let format = size.format;
-    match format {
+    match size.format {
         Format::Flc => house_ss2::write_delta(out, at, previous, next, size.width, size.height),
         Format::Fli => house_lc::write_delta(out, at, previous, next, size.width, size.height),
     }

@@ -1,5 +1,5 @@
 -- Document 01, "Numbers to try (P: proved)", and numbers of the later requests: one table. `holds` computes each item from the definitions of reading and of the house form.
-use Rattle.std.specs.Prelude.{ℕ, zero, suc, ◌+◌, ◌-◌, List, [], ◌∷◌, ◌++◌, Bool, true, false, ◌&&◌, eqb, length, get_or, replicate}
+use Rattle.std.specs.Prelude.{ℕ, zero, suc, ◌+◌, ◌-◌, List, [], ◌∷◌, ◌++◌, Bool, true, false, ◌&&◌, eqb, length, get_or, replicate, Ok, Err}
 use Rattle.words.specs.Words.{same}
 use Rattle.words.specs.Writes.{Write}
 use Rattle.answer.specs.Answer.{number}
@@ -8,12 +8,11 @@ use Rattle.format.specs.Format.{FLI_COLOR256, FLI_SS2, FLI_COLOR, FLI_LC, FLI_BL
 use Rattle.format.specs.Limits.{size_of}
 use Rattle.format.specs.declared.Format.{Format}
 use Rattle.format.specs.declared.Format.TheVariants.{Flc, Fli}
-use Rattle.walk.specs.declared.Verdict.{Verdict}
-use Rattle.walk.specs.declared.Verdict.TheVariants.{Ends, Fault}
 use Rattle.read_chunk.specs.Chunk.{sub_chunk}
 use Rattle.house_rows.specs.Row.{house_bytes}
 use Rattle.house_delta.specs.Delta.{delta_body}
 use Rattle.house_frame.specs.House.{house_frame}
+use Rattle.walk.specs.Walk.{Verdict}
 
 -- what a body does: it is accepted and sets these bytes of the picture, or of the palette, from that index on and nothing else, or it is refused with
 -- a number
@@ -47,12 +46,12 @@ is_none (w ∷ ws) = false
 
 -- with these writes to the picture and to the palette
 abbrev pub does : List Write → List Write → Verdict → Effect → Bool
-does pixels colours (Ends end) (sets_pixels at v) = is_one pixels at v && is_none colours
-does pixels colours (Ends end) (sets_colours at v) = is_none pixels && is_one colours at v
-does pixels colours (Ends end) (refused_with n) = false
-does pixels colours (Fault e) (sets_pixels at v) = false
-does pixels colours (Fault e) (sets_colours at v) = false
-does pixels colours (Fault e) (refused_with n) = eqb (number e) n
+does pixels colours (Ok end) (sets_pixels at v) = is_one pixels at v && is_none colours
+does pixels colours (Ok end) (sets_colours at v) = is_none pixels && is_one colours at v
+does pixels colours (Ok end) (refused_with n) = false
+does pixels colours (Err e) (sets_pixels at v) = false
+does pixels colours (Err e) (sets_colours at v) = false
+does pixels colours (Err e) (refused_with n) = eqb (number e) n
 
 unfoldable pub holds : Number → Bool
 holds (row pixels bytes) = same (house_bytes pixels) bytes

@@ -4,14 +4,14 @@
 use mathlib.Core.Path.{◌≡◌, refl, ap, ◌∙◌, sym}
 use mathlib.Core.List.{List, [], ◌∷◌, ◌++◌}
 use mathlib.Core.Bool.{Bool, true, false, cond}
-use Prim.Native.Nat.{ℕ, zero, suc, ◌+◌, ◌-◌, ◌≤◌, ◌<◌}
+use Prim.Native.Nat.{ℕ, zero, suc, ◌+◌, ◌*◌, ◌≤◌, ◌<◌}
 use native.Mathlib.Nat.{zero-add}
 use native.Mathlib.Numerals.{add-one}
 use native.Mathlib.Omega.{arith}
 use borrow.Author.Tests.{eq-eqb, ne_eqb, leb-true, leb-false}
 use lib.Dec.{eqb, leb}
 use lib.ListN.{length, get_or, take, drop, replicate, length-append, length-drop, take-append-drop}
-use lib.Seq.{drop-cons}
+use lib.Seq.{drop-cons, take_at, drop_at}
 use Rattle.words.proofs.Laws.{same_eq}
 use Rattle.house_rows.specs.Row.{Encodes, none, repeated, copied}
 use Rattle.house_rows.proofs.RowRule.{house_encodes}
@@ -109,10 +109,48 @@ unfolding all_edges
 all_none w zero q k = refl
 all_none w (suc h) q k = absurd (omega arith)
 
-pub all_more : (w h : ℕ) (q : List ℕ) → 0 < h → all_edges w h q ≡ edges (take w q) + all_edges w (h - 1) (drop w q)
+pub all_more : (w h : ℕ) (q : List ℕ) → all_edges w (suc h) q ≡ edges (take w q) + all_edges w h (drop w q)
 unfolding all_edges
-all_more w zero q k = absurd (omega arith)
-all_more w (suc h) q k = let e : h ≡ suc h - 1 = omega arith in ap (λ (n : ℕ). edges (take w q) + all_edges w n (drop w q)) e
+all_more w h q = refl
+
+-- counting row by row: the rows that are left, and the edges of those before
+pub record Counting (w h : ℕ) (q rest : List ℕ) (count : ℕ) : Type 0 where
+  pub left : ℕ
+  pub rows : length rest ≡ w * left
+  pub few : count + length rest ≤ length q
+  pub counted : count + all_edges w left rest ≡ all_edges w h q
+
+pub counting_more : {w h : ℕ} {q rest : List ℕ} {count : ℕ} → Counting w h q rest count → 1 ≤ w → (row rest' : List ℕ) (n : ℕ) → rest ≡ row ++ rest'
+    → length row ≡ w → n ≡ edges row → Counting w h q rest' (count + n)
+counting_more {w} {h} {q} {rest} {count} c some row rest' n e l is = by_left c.left c.rows c.counted
+  where
+    long : length rest ≡ w + length rest'
+    long = omega (arith, ap length e, length-append row rest')
+
+    by_left : (left : ℕ) → length rest ≡ w * left → count + all_edges w left rest ≡ all_edges w h q → Counting w h q rest' (count + n)
+    by_left zero r k = absurd (omega (arith, long))
+    by_left (suc left) r k = record {
+      left = left;
+      rows = omega (arith, long);
+      few = omega (arith, long, c.few, edges_few row);
+      counted =
+          omega (
+            arith,
+            k,
+            all_more w left rest,
+            ap (λ (s : List ℕ). edges (take w s)) e,
+            ap edges (take_at row rest' w l),
+            ap (λ (s : List ℕ). all_edges w left (drop w s)) e,
+            ap (all_edges w left) (drop_at row rest' w l),
+          );
+    }
+
+pub counting_done : {w h : ℕ} {q rest : List ℕ} {count : ℕ} → Counting w h q rest count → length rest < w → count ≡ all_edges w h q
+counting_done {w} {h} {q} {rest} {count} c short = by_left c.left c.rows c.counted
+  where
+    by_left : (left : ℕ) → length rest ≡ w * left → count + all_edges w left rest ≡ all_edges w h q → count ≡ all_edges w h q
+    by_left zero r k = omega (arith, k, all_none w 0 rest (omega arith))
+    by_left (suc left) r k = absurd (omega arith)
 
 all_within : (w h : ℕ) (q : List ℕ) → all_edges w h q ≤ edges q
 unfolding all_edges

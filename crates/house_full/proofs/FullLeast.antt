@@ -11,20 +11,17 @@ use lib.Dec.{leb, ltb}
 use lib.ListN.{length, take, drop, get_or, replicate, length-append, length-take, length-drop, length-replicate}
 use lib.Seq.{length-take-le, take_at, drop_at}
 use borrow.Author.Tests.{leb-true, leb-false, ltb-true, ltb-false}
+use Rattle.std.specs.Prelude.{Ok, Err}
 use Rattle.words.specs.Words.{magnitude, same, chunk}
 use Rattle.words.specs.Writes.{put, applied}
 use Rattle.words.proofs.Laws.{magnitude_plus, magnitude_minus, length_chunk, same_refl}
 use Rattle.format.specs.Format.{FLI_BLACK, FLI_BRUN, FLI_COPY}
-use Rattle.walk.specs.Walk.{Walk, ends, and_then}
+use Rattle.walk.specs.Walk.{Walk, ends, and_then, Verdict}
 use Rattle.answer.specs.declared.Refusal.TheVariants.{BodyEnds}
-use Rattle.walk.specs.declared.Verdict.{Verdict}
-use Rattle.walk.specs.declared.Verdict.TheVariants as verdict
 use Rattle.walk.proofs.Laws.{VerdictIn, fault_not_end}
 use Rattle.walk.proofs.Gives.{Gives}
 use Rattle.read_brun.specs.Brun as walk
-use Rattle.read_brun.specs.Brun.{run_onward, data_bytes, pixels, packet_at, after_packet, brun}
-use Rattle.read_brun.specs.declared.BrunStep.{BrunStep}
-use Rattle.read_brun.specs.declared.BrunStep.TheVariants.{Fault, Pixels}
+use Rattle.read_brun.specs.Brun.{BrunStep, run_onward, data_bytes, pixels, packet_at, after_packet, brun}
 use Rattle.read_brun.proofs.Laws.{data_repeat, data_copy, pixels_repeat, pixels_copy, PacketIn, packet_in, row_length, brun_sound, brun_verdict, brun_applied}
 use Rattle.read_full.specs.Full.{black, copied}
 use Rattle.read_full.proofs.Laws.{black_applied, copied_whole, copied_short}
@@ -43,7 +40,7 @@ record Taken (px : List ℕ) (at end : ℕ) : Type 0 where
   code : Encodes bs px
   place : at + length bs ≡ end
 
-ends_same : {m n : ℕ} → verdict.Ends m ≡ verdict.Ends n → m ≡ n
+ends_same : {m n : ℕ} → ◌≡◌ {A = Verdict} (Ok m) (Ok n) → m ≡ n
 ends_same e = cc
 
 module _ (b : List ℕ) where
@@ -74,7 +71,7 @@ module _ (b : List ℕ) where
         place = omega (arith, r.place, data_copy t k, length-append vs r.bs);
       })
 
-  packets_taken : (left filled at end : ℕ) → filled ≤ left → (walk.packets b left filled at).verdict ≡ verdict.Ends end
+  packets_taken : (left filled at end : ℕ) → filled ≤ left → (walk.packets b left filled at).verdict ≡ Ok end
       → Taken (walk.packets b left filled at).pixels at end
   unfolding walk.packets
   packets_taken zero filled at end h e = record { bs = []; code = none; place = omega (arith, ends_same e) }
@@ -82,21 +79,21 @@ module _ (b : List ℕ) where
   packets_taken (suc left) zero at end h e =
       at_packet (packet_at b at (suc left)) (packet_in b at (suc left) _ refl) e (λ f to l q. packets_taken left f to end l q)
     where
-      at_packet : (p : BrunStep) → PacketIn b at (suc left) p → (after_packet b at p (λ n to. walk.packets b left (n - 1) to)).verdict ≡ verdict.Ends end
-          → ((f to : ℕ) → f ≤ left → (walk.packets b left f to).verdict ≡ verdict.Ends end → Taken (walk.packets b left f to).pixels to end)
+      at_packet : (p : BrunStep) → PacketIn b at (suc left) p → (after_packet b at p (λ n to. walk.packets b left (n - 1) to)).verdict ≡ Ok end
+          → ((f to : ℕ) → f ≤ left → (walk.packets b left f to).verdict ≡ Ok end → Taken (walk.packets b left f to).pixels to end)
           → Taken (after_packet b at p (λ n to. walk.packets b left (n - 1) to)).pixels at end
-      at_packet (Fault x) i e ih = fault_not_end e
-      at_packet (Pixels t n to) i e ih =
-          let px = (walk.packets b left (n - 1) to).pixels in
-          packet_taken at t end px (omega (arith, i.0, i.2)) (omega (arith, i.3, i.4))
-          (subst (λ (x : ℕ). Taken px x end) (sym i.3) (ih (n - 1) to (omega (arith, i.0, i.1)) e))
+      at_packet (Err x) i e ih = fault_not_end e
+      at_packet (Ok p) i e ih =
+          let px = (walk.packets b left (p.count - 1) p.end).pixels in
+          packet_taken at p.code end px (omega (arith, i.0, i.2)) (omega (arith, i.3, i.4))
+          (subst (λ (x : ℕ). Taken px x end) (sym i.3) (ih (p.count - 1) p.end (omega (arith, i.0, i.1)) e))
 
   -- a row that ends is no shorter than the house's
-  row_least : (w at end : ℕ) → (walk.row w b at).verdict ≡ verdict.Ends end → at + length (brun_row (walk.row w b at).pixels) ≤ end
+  row_least : (w at end : ℕ) → (walk.row w b at).verdict ≡ Ok end → at + length (brun_row (walk.row w b at).pixels) ≤ end
   unfolding walk.row
   row_least w at end e = by_test (leb (at + 1) (length b)) e
     where
-      by_test : (x : Bool) → (cond x (walk.packets b w 0 (at + 1)) (walk.run_fault BodyEnds)).verdict ≡ verdict.Ends end
+      by_test : (x : Bool) → (cond x (walk.packets b w 0 (at + 1)) (walk.run_fault BodyEnds)).verdict ≡ Ok end
           → at + length (brun_row (cond x (walk.packets b w 0 (at + 1)) (walk.run_fault BodyEnds)).pixels) ≤ end
       by_test true e =
           let r = packets_taken w 0 (at + 1) end (omega arith) e in
@@ -109,7 +106,7 @@ module _ (b : List ℕ) where
     least : at + length (brun_body w h q) ≤ end
     pixels : length q ≡ w * h
 
-  rows_least : (w h at end : ℕ) → (walk.rows w b h at).verdict ≡ verdict.Ends end → Rows (walk.rows w b h at).pixels w h at end
+  rows_least : (w h at end : ℕ) → (walk.rows w b h at).verdict ≡ Ok end → Rows (walk.rows w b h at).pixels w h at end
   unfolding walk.rows
   rows_least w zero at end e = record { least = omega (arith, ends_same e, ap length (body_none w [])); pixels = omega arith }
   rows_least w (suc h) at end e = at_row (walk.row w b at).verdict refl e (λ m q. rows_least w h m end q)
@@ -117,11 +114,11 @@ module _ (b : List ℕ) where
       px : List ℕ
       px = (walk.row w b at).pixels
 
-      at_row : (v : Verdict) → (walk.row w b at).verdict ≡ v → (run_onward px v (λ to. walk.rows w b h to)).verdict ≡ verdict.Ends end
-          → ((m : ℕ) → (walk.rows w b h m).verdict ≡ verdict.Ends end → Rows (walk.rows w b h m).pixels w h m end)
+      at_row : (v : Verdict) → (walk.row w b at).verdict ≡ v → (run_onward px v (λ to. walk.rows w b h to)).verdict ≡ Ok end
+          → ((m : ℕ) → (walk.rows w b h m).verdict ≡ Ok end → Rows (walk.rows w b h m).pixels w h m end)
           → Rows (run_onward px v (λ to. walk.rows w b h to)).pixels w (suc h) at end
-      at_row (verdict.Fault x) d e ih = fault_not_end e
-      at_row (verdict.Ends m) d e ih =
+      at_row (Err x) d e ih = fault_not_end e
+      at_row (Ok m) d e ih =
           let q = (walk.rows w b h m).pixels in
           let r = ih m e in
           let n : length px ≡ w = row_length w b at m d in
@@ -145,7 +142,7 @@ one_write : (v d : List ℕ) → applied (and_then 0 v (ends (length v))).writes
 unfolding applied
 one_write v d = refl
 
-end_in : (b : List ℕ) {end : ℕ} {v : Verdict} → v ≡ verdict.Ends end → VerdictIn b v → end ≤ length b
+end_in : (b : List ℕ) {end : ℕ} {v : Verdict} → v ≡ Ok end → VerdictIn b v → end ≤ length b
 end_in b e i = subst (VerdictIn b) e i
 
 module _ (w h : ℕ) (b p q : List ℕ) (end : ℕ) (lp : length p ≡ w * h) where

@@ -1,17 +1,17 @@
 -- Laws of the definitions in specs/Full.antt: the BRUN body row by row, the test for black, and which chunk is taken.
 use mathlib.Core.Path.{◌≡◌, refl, sym, ap, ap₂, ◌∙◌}
 use mathlib.Core.List.{List, [], ◌∷◌, ◌++◌, append-nil}
-use mathlib.Core.Bool.{Bool, true, false}
+use mathlib.Core.Bool.{Bool, true, false, cond, ◌&&◌}
 use Prim.Native.Nat.{ℕ, zero, suc, ◌+◌, ◌-◌, ◌*◌, ◌≤◌, ◌<◌, min}
-use native.Mathlib.Numerals.{add-one}
 use native.Mathlib.Omega.{arith}
 use borrow.Author.Tests.{le-leb, lt-leb, leb-true, leb-false}
-use lib.Dec.{leb}
-use lib.ListN.{length, take, drop, get_or, set, replicate, length-append, length-drop, length-replicate}
+use lib.Dec.{eqb, leb}
+use Rattle.std.specs.List.{list_all}
+use lib.ListN.{length, take, drop, set, replicate, length-append, length-drop}
 use lib.Seq.{length-take-le, drop-drop, take_at, drop_at, drop-length}
 use Rattle.words.specs.Words.{same, chunk}
 use Rattle.words.specs.Writes.{put}
-use Rattle.words.proofs.Laws.{put_append, put_before, put_nil, put_one, put_front, length_put, span_back, length_chunk, same_goes, same_stops, same_ends, get_d_zeros}
+use Rattle.words.proofs.Laws.{put_append, put_before, put_nil, put_one, put_front, length_put, span_back, length_chunk}
 use Rattle.format.specs.Limits.{max_area}
 use Rattle.format.specs.Format.{FLI_BLACK, FLI_BRUN, FLI_COPY}
 use Rattle.house_rows.specs.Row.{house, house_bytes}
@@ -56,6 +56,9 @@ row_length w from q h = ap length (row_at w from q) ∙ length-take-le w (drop f
 module _ (w : ℕ) (q : List ℕ) (from left rest : ℕ) (e : left ≡ suc rest) where
   pub rows_left : from + w * left ≡ length q → from + w + w * rest ≡ length q
   rows_left h = omega (arith, ap (λ (k : ℕ). w * k) e)
+
+  pub row_left : from + w * left ≡ length q → from + w ≤ length q
+  row_left h = omega (arith, rows_left h)
 
   pub next_row : brun_body w left (drop from q) ≡ brun_row (take (from + w - from) (drop from q)) ++ brun_body w rest (drop (from + w) q)
   next_row =
@@ -110,41 +113,37 @@ pub record Measuring (w h : ℕ) (q plan₀ plan : List ℕ) (size from left : �
   pub long : length plan ≡ length q
   pub noted : put plan from (row_types w left (drop from q)) ≡ put plan₀ 0 (row_types w h q)
 
-pub measuring_first : {w h : ℕ} {q plan : List ℕ} → Picture w h q → length plan ≡ length q → Measuring w h q plan plan 0 0 h
-measuring_first s l = record { sized = omega arith; place = omega (arith, s.pixels); small = omega arith; long = l; noted = refl }
-
 module _ {w h : ℕ} {q plan₀ plan : List ℕ} {size from left : ℕ} (m : Measuring w h q plan₀ plan size from left) where
-  pub measured_in : 0 < left → from + w ≤ length q
-  measured_in l = let e : left ≡ suc (left - 1) = omega arith in omega (arith, rows_left w q from left (left - 1) e m.place)
+  module _ (rest : ℕ) (e : left ≡ suc rest) where
+    pub measured_in : from + w ≤ length q
+    measured_in = row_left w q from left rest e m.place
 
-  pub measuring_more : 1 ≤ w → 0 < left → (n : ℕ) (x : List ℕ) → n ≡ length (house_bytes (take (from + w - from) (drop from q)))
-      → x ≡ types (take (from + w - from) (drop from q))
-      → Measuring w h q plan₀ (take from plan ++ (x ++ drop (from + w - from) (drop from plan))) (size + 1 + n) (from + w) (left - 1)
-  measuring_more some l n x p t =
-      let s = take (from + w - from) (drop from q) in
-      let z = row_types w (left - 1) (drop (from + w) q) in
-      let e : left ≡ suc (left - 1) = omega arith in
-      let i = row_length w from q (measured_in l) in
-      let k : length (types s) ≡ w = length_types s ∙ i in
-      let stored = span_back plan x (types s) from (from + w) w t k refl in
-      record {
-        sized = omega (arith, m.sized, next_length w q from left (left - 1) e, length_row s);
-        place = rows_left w q from left (left - 1) e m.place;
-        small = omega (arith, m.small, row_small s (omega arith), length_row s);
-        long = ap length stored ∙ length_put plan from (types s) (omega (arith, measured_in l, m.long)) ∙ m.long;
-        noted = ap (λ (d : List ℕ). put d (from + w) z) stored ∙ sym (put_append plan from (types s) z w k (omega (arith, measured_in l, m.long)))
-            ∙ ap (λ (y : List ℕ). put plan from y) (sym (next_types w q from left (left - 1) e)) ∙ m.noted;
-      }
+    pub measuring_more : 1 ≤ w → (n : ℕ) (x : List ℕ) → n ≡ length (house_bytes (take (from + w - from) (drop from q)))
+        → x ≡ types (take (from + w - from) (drop from q))
+        → Measuring w h q plan₀ (take from plan ++ (x ++ drop (from + w - from) (drop from plan))) (size + (1 + n)) (from + w) rest
+    measuring_more some n x p t =
+        let s = take (from + w - from) (drop from q) in
+        let z = row_types w rest (drop (from + w) q) in
+        let i = row_length w from q measured_in in
+        let k : length (types s) ≡ w = length_types s ∙ i in
+        let stored = span_back plan x (types s) from (from + w) w t k refl in
+        record {
+          sized = omega (arith, m.sized, next_length w q from left rest e, length_row s);
+          place = rows_left w q from left rest e m.place;
+          small = omega (arith, m.small, row_small s (omega arith), length_row s);
+          long = ap length stored ∙ length_put plan from (types s) (omega (arith, measured_in, m.long)) ∙ m.long;
+          noted = ap (λ (d : List ℕ). put d (from + w) z) stored ∙ sym (put_append plan from (types s) z w k (omega (arith, measured_in, m.long)))
+              ∙ ap (λ (y : List ℕ). put plan from y) (sym (next_types w q from left rest e)) ∙ m.noted;
+        }
 
-  pub measuring_done : left ≤ 0 → (size ≡ length (brun_body w h q))
-  measuring_done l = let e : left ≡ 0 = omega arith in
-      omega (arith, m.sized, ap (λ (k : ℕ). length (brun_body w k (drop from q))) e, ap length (body_none w (drop from q)))
+  module _ (e : left ≡ 0) where
+    pub measuring_done : size ≡ length (brun_body w h q)
+    measuring_done = omega (arith, m.sized, ap (λ (k : ℕ). length (brun_body w k (drop from q))) e, ap length (body_none w (drop from q)))
 
-  pub measured_types : Picture w h q → length plan₀ ≡ length q → left ≤ 0 → plan ≡ row_types w h q
-  measured_types s long l =
-      let e : left ≡ 0 = omega arith in
-      let n : row_types w left (drop from q) ≡ [] = ap (λ (k : ℕ). row_types w k (drop from q)) e ∙ types_none w (drop from q) in
-      sym (put_nil plan from) ∙ ap (λ (x : List ℕ). put plan from x) (sym n) ∙ m.noted ∙ put_whole plan₀ (row_types w h q) (plan_length s ∙ sym long)
+    pub measured_types : Picture w h q → length plan₀ ≡ length q → plan ≡ row_types w h q
+    measured_types s long =
+        let n : row_types w left (drop from q) ≡ [] = ap (λ (k : ℕ). row_types w k (drop from q)) e ∙ types_none w (drop from q) in
+        sym (put_nil plan from) ∙ ap (λ (x : List ℕ). put plan from x) (sym n) ∙ m.noted ∙ put_whole plan₀ (row_types w h q) (plan_length s ∙ sym long)
 
 -- writing: what is left, put at here, gives the whole, and what is left of the plan is that of the rows left
 pub record Filling (w h : ℕ) (q plan out₀ : List ℕ) (at : ℕ) (out : List ℕ) (here from left : ℕ) : Type 0 where
@@ -169,47 +168,46 @@ filling_first out at s p r = record {
 }
 
 module _ {w h : ℕ} {q plan out₀ out : List ℕ} {at here from left : ℕ} (f : Filling w h q plan out₀ at out here from left) where
-  pub filled_in : 0 < left → from + w ≤ length q
-  filled_in l = let e : left ≡ suc (left - 1) = omega arith in omega (arith, rows_left w q from left (left - 1) e f.place)
+  module _ (rest : ℕ) (e : left ≡ suc rest) where
+    pub filled_in : from + w ≤ length q
+    filled_in = row_left w q from left rest e f.place
 
-  pub filled_room : 0 < left → here + length (brun_row (take (from + w - from) (drop from q))) ≤ length out
-  filled_room l = let e : left ≡ suc (left - 1) = omega arith in omega (arith, next_length w q from left (left - 1) e, f.room, f.reached, f.long)
+    pub filled_room : here + length (brun_row (take (from + w - from) (drop from q))) ≤ length out
+    filled_room = omega (arith, next_length w q from left rest e, f.room, f.reached, f.long)
 
-  -- what is planned of the next row
-  planned_next : 0 < left → drop from plan ≡ types (take (from + w - from) (drop from q)) ++ row_types w (left - 1) (drop (from + w) q)
-  planned_next l = let e : left ≡ suc (left - 1) = omega arith in f.planned ∙ next_types w q from left (left - 1) e
+    -- what is planned of the next row
+    planned_next : drop from plan ≡ types (take (from + w - from) (drop from q)) ++ row_types w rest (drop (from + w) q)
+    planned_next = f.planned ∙ next_types w q from left rest e
 
-  planned_length : 0 < left → length (types (take (from + w - from) (drop from q))) ≡ w
-  planned_length l = length_types (take (from + w - from) (drop from q)) ∙ row_length w from q (filled_in l)
+    planned_length : length (types (take (from + w - from) (drop from q))) ≡ w
+    planned_length = length_types (take (from + w - from) (drop from q)) ∙ row_length w from q filled_in
 
-  pub filled_types : 0 < left → take (from + w - from) (drop from plan) ≡ types (take (from + w - from) (drop from q))
-  filled_types l =
-      ap (λ (x : List ℕ). take (from + w - from) x) (planned_next l)
-      ∙ take_at (types (take (from + w - from) (drop from q))) (row_types w (left - 1) (drop (from + w) q)) (from + w - from) (planned_length l ∙ omega arith)
+    pub filled_types : take (from + w - from) (drop from plan) ≡ types (take (from + w - from) (drop from q))
+    filled_types =
+        ap (λ (x : List ℕ). take (from + w - from) x) planned_next
+        ∙ take_at (types (take (from + w - from) (drop from q))) (row_types w rest (drop (from + w) q)) (from + w - from) (planned_length ∙ omega arith)
 
-  pub filling_more : 0 < left → (n : ℕ) (out' : List ℕ) → n ≡ length (brun_row (take (from + w - from) (drop from q)))
-      → out' ≡ put out here (brun_row (take (from + w - from) (drop from q)))
-      → Filling w h q plan out₀ at out' (here + n) (from + w) (left - 1)
-  filling_more l n out' p d =
-      let v = brun_row (take (from + w - from) (drop from q)) in
-      let z = brun_body w (left - 1) (drop (from + w) q) in
-      let e : left ≡ suc (left - 1) = omega arith in
-      let r = filled_room l in
-      record {
-        stored = ap (λ (o : List ℕ). put o (here + n) z) d ∙ sym (put_append out here v z n (sym p) (omega arith))
-            ∙ ap (λ (x : List ℕ). put out here x) (sym (next_row w q from left (left - 1) e)) ∙ f.stored;
-        long = ap length d ∙ length_put out here v r ∙ f.long;
-        room = f.room;
-        reached = omega (arith, f.reached, next_length w q from left (left - 1) e);
-        place = rows_left w q from left (left - 1) e f.place;
-        long_plan = f.long_plan;
-        planned = sym (drop-drop w from plan) ∙ ap (λ (x : List ℕ). drop w x) (planned_next l)
-            ∙ drop_at (types (take (from + w - from) (drop from q))) (row_types w (left - 1) (drop (from + w) q)) w (planned_length l);
-      }
+    pub filling_more : (n : ℕ) (out' : List ℕ) → n ≡ length (brun_row (take (from + w - from) (drop from q)))
+        → out' ≡ put out here (brun_row (take (from + w - from) (drop from q)))
+        → Filling w h q plan out₀ at out' (here + n) (from + w) rest
+    filling_more n out' p d =
+        let v = brun_row (take (from + w - from) (drop from q)) in
+        let z = brun_body w rest (drop (from + w) q) in
+        let r = filled_room in
+        record {
+          stored = ap (λ (o : List ℕ). put o (here + n) z) d ∙ sym (put_append out here v z n (sym p) (omega arith))
+              ∙ ap (λ (x : List ℕ). put out here x) (sym (next_row w q from left rest e)) ∙ f.stored;
+          long = ap length d ∙ length_put out here v r ∙ f.long;
+          room = f.room;
+          reached = omega (arith, f.reached, next_length w q from left rest e);
+          place = rows_left w q from left rest e f.place;
+          long_plan = f.long_plan;
+          planned = sym (drop-drop w from plan) ∙ ap (λ (x : List ℕ). drop w x) planned_next
+              ∙ drop_at (types (take (from + w - from) (drop from q))) (row_types w rest (drop (from + w) q)) w planned_length;
+        }
 
-  pub filling_done : left ≤ 0 → (here ≡ at + length (brun_body w h q)) × (out ≡ put out₀ at (brun_body w h q))
-  filling_done l =
-      let e : left ≡ 0 = omega arith in
+  pub filling_done : left ≡ 0 → (here ≡ at + length (brun_body w h q)) × (out ≡ put out₀ at (brun_body w h q))
+  filling_done e =
       let n : brun_body w left (drop from q) ≡ [] = ap (λ (k : ℕ). brun_body w k (drop from q)) e ∙ body_none w (drop from q) in
       (omega (arith, f.reached, ap length n), sym (put_nil out here) ∙ ap (λ (x : List ℕ). put out here x) (sym n) ∙ f.stored)
 
@@ -223,27 +221,12 @@ put_row out s out' at n c e p room b =
     ∙ ap₂ (λ (o : List ℕ) (x : ℕ). put o at (x ∷ [])) p (b ∙ ap (min 255) e)
     ∙ put_before out (min 255 (length (house s)) ∷ []) (house_bytes s) at 1 refl (omega arith)
 
--- a picture that is all 0
-
--- so from pixel i on
-abbrev pub zero_from : List ℕ → ℕ → Bool
-zero_from q i = same (drop i q) (drop i (replicate (length q) 0))
-
-pub zero_first : (q : List ℕ) → all_zero q ≡ zero_from q 0
-unfolding all_zero
-zero_first q = refl
-
-module _ (q : List ℕ) (i : ℕ) where
-  pub zero_goes : i < length q → get_or q i 0 ≡ 0 → zero_from q i ≡ zero_from q (i + 1)
-  zero_goes h e =
-      same_goes q (replicate (length q) 0) i (sym (length-replicate (length q) 0)) h (e ∙ sym (get_d_zeros (length q) i))
-      ∙ ap (λ (k : ℕ). zero_from q k) (sym (add-one i))
-
-  pub zero_stops : i < length q → (get_or q i 0 ≡ 0 → ⊥) → zero_from q i ≡ false
-  zero_stops h n = same_stops q (replicate (length q) 0) i (sym (length-replicate (length q) 0)) h (λ e. n (e ∙ get_d_zeros (length q) i))
-
-  pub zero_ends : length q ≤ i → zero_from q i ≡ true
-  zero_ends h = same_ends q (replicate (length q) 0) i (sym (length-replicate (length q) 0)) h
+-- a picture that is all 0: each of its pixels is
+pub zero_each : (q : List ℕ) → list_all (λ x. eqb x 0) q ≡ all_zero q
+unfolding all_zero same
+zero_each [] = refl
+zero_each (x ∷ q) = by_test (λ b. (b && list_all (λ x. eqb x 0) q) ≡ cond b (same q (replicate (length q) 0)) false) (eqb x 0)
+    (λ e. zero_each q) (λ e. refl)
 
 -- what the measure leaves of the plan
 module _ (w h : ℕ) (q p : List ℕ) where

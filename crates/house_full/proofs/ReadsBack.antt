@@ -8,15 +8,14 @@ use native.Mathlib.Omega.{arith}
 use native.Mathlib.Nat.{add-zero}
 use lib.ListN.{length, take, drop, get_or, replicate, length-append, length-drop, length-replicate, take-append-drop, drop_of_length-le}
 use lib.Seq.{length-take-le, take_all}
+use Rattle.std.specs.Prelude.{Ok}
 use Rattle.words.specs.Words.{magnitude}
 use Rattle.words.specs.Writes.{put}
 use Rattle.words.proofs.Laws.{magnitude_plus, magnitude_minus, put_front, same_eq}
 use Rattle.words.proofs.There.{there_drop, there_take, there_byte, there_long}
 use Rattle.walk.proofs.Gives.{Gives, gives_ends, gives_then, gives_as}
 use Rattle.walk.specs.Walk.{ends, and_then}
-use Rattle.walk.specs.declared.Verdict.TheVariants.{Ends}
-use Rattle.read_brun.specs.Brun.{Run, run_before, data_bytes, pixels, packet_at, packets, row, rows, brun}
-use Rattle.read_brun.specs.declared.BrunStep.TheVariants.{Pixels}
+use Rattle.read_brun.specs.Brun.{packet_to, BrunStep, Run, run_before, data_bytes, pixels, packet_at, packets, row, rows, brun}
 use Rattle.read_brun.proofs.Laws.{data_repeat, data_copy, pixels_repeat, pixels_copy, packet_whole, packets_none, packets_more, row_open, rows_none, rows_more, brun_verdict, brun_applied}
 use Rattle.read_full.specs.Full.{black, copied}
 use Rattle.read_full.proofs.Laws.{copied_whole}
@@ -27,7 +26,7 @@ use Rattle.house_full.proofs.Laws.{body_none, body_more}
 
 -- a run with no fault, whose data ends at end and whose pixels are s
 pub record Shows (r : Run) (end : ℕ) (s : List ℕ) : Type 0 where
-  pub ended : r.verdict ≡ Ends end
+  pub ended : r.verdict ≡ Ok end
   pub shown : r.pixels ≡ s
 
 shows_as : {r r' : Run} {end : ℕ} {s : List ℕ} → r ≡ r' → Shows r' end s → Shows r end s
@@ -50,10 +49,10 @@ module _ (b : List ℕ) where
       let one : at + 1 ≤ length b = there_long b (t ∷ more) at 1 e (omega arith) (omega arith) in
       let there : at + (1 + data_bytes t) ≤ length b = there_long b (t ∷ more) at (1 + data_bytes t) e (omega arith) (omega arith) in
       let n : left - magnitude t ≡ rest = omega arith in
-      let p : packet_at b at left ≡ Pixels t (magnitude t) (at + 1 + data_bytes t) =
+      let p : packet_at b at left ≡ Ok (packet_to t (magnitude t) (at + 1 + data_bytes t)) =
       subst
       (λ (x : ℕ). 1 ≤ magnitude x → magnitude x ≤ left → at + 1 + data_bytes x ≤ length b → packet_at b at left
-      ≡ Pixels x (magnitude x) (at + 1 + data_bytes x)) byte
+      ≡ Ok (packet_to x (magnitude x) (at + 1 + data_bytes x))) byte
       (packet_whole b at left one) some (omega arith) (omega arith) in
       shows_as (packets_more b left at (omega arith) t (magnitude t) (at + 1 + data_bytes t) p some (omega arith))
       (shows_before (pixels b (at + 1) t) v px (shows_as (ap (λ (k : ℕ). packets b k 0 (at + 1 + data_bytes t)) n) after))
@@ -61,7 +60,7 @@ module _ (b : List ℕ) where
   -- what encodes a row is read as that row
   pub encoded_shows : {bs s : List ℕ} → Encodes bs s → (at : ℕ) (more : List ℕ) (end : ℕ) → drop at b ≡ bs ++ more → end ≡ at + length bs
       → Shows (packets b (length s) 0 at) end s
-  encoded_shows none at more end e ee = shows_as (packets_none b 0 at (omega arith)) (record { ended = ap Ends (omega arith); shown = refl })
+  encoded_shows none at more end e ee = shows_as (packets_none b 0 at (omega arith)) (record { ended = ap Ok (omega arith); shown = refl })
   encoded_shows (repeated {bs} {s} n v l h c) at more end e ee =
       let m : magnitude n ≡ n = magnitude_plus n (omega arith) in
       let d : data_bytes n ≡ 1 = data_repeat n (omega arith) in
@@ -96,7 +95,7 @@ module _ (b : List ℕ) where
       → Shows (rows w b h at) end q
   rows_show w zero q at end l e ee =
       shows_as (rows_none w b 0 at (omega arith))
-      (record { ended = ap Ends (omega (arith, ap length (body_none w q))); shown = sym (empty q (omega arith)) })
+      (record { ended = ap Ok (omega (arith, ap length (body_none w q))); shown = sym (empty q (omega arith)) })
   rows_show w (suc h) q at end l e ee =
       let s = take w q in
       let rest = brun_body w h (drop w q) in

@@ -9,25 +9,23 @@ use borrow.Author.Tests.{leb-true, ltb-true, ltb-false}
 use lib.Dec.{leb, ltb}
 use lib.ListN.{length, get_or, take, drop, length-drop, take-append-drop, drop_of_length-le}
 use lib.Seq.{length-take-le, drop-drop, drop-cons}
+use Rattle.std.specs.Prelude.{Ok, Err}
 use Rattle.words.specs.Words.{Bytes, magnitude}
 use Rattle.words.proofs.Laws.{magnitude_plus, magnitude_minus, bytes_get_d}
 use Rattle.words.proofs.Tests.{by_test}
 use Rattle.answer.specs.declared.Refusal.TheVariants.{BodyEnds, ZeroCount, PastWidth}
-use Rattle.walk.specs.declared.Verdict.{Verdict}
-use Rattle.walk.specs.declared.Verdict.TheVariants as verdict
 use Rattle.walk.proofs.Laws.{fault_not_end}
-use Rattle.read_brun.specs.Brun.{Run, data_bytes, pixels, packet_of, packet_at, after_packet, packets}
-use Rattle.read_brun.specs.declared.BrunStep.{BrunStep}
-use Rattle.read_brun.specs.declared.BrunStep.TheVariants.{Fault, Pixels}
+use Rattle.read_brun.specs.Brun.{packet_to, BrunStep, Run, data_bytes, pixels, packet_of, packet_at, after_packet, packets}
 use Rattle.read_brun.proofs.Laws.{PacketIn, packet_in, data_repeat, data_copy, pixels_repeat, pixels_copy}
 use Rattle.house_rows.specs.Row.{Encodes, none, repeated, copied}
 use Rattle.house_full.specs.RowReader.{RowReader}
 use Rattle.house_full.proofs.ReadsBack.{encoded_shows}
+use Rattle.walk.specs.Walk.{Verdict}
 
 -- the type of a packet is the byte that it begins with
 abbrev TypeIs : List ℕ → ℕ → BrunStep → Type 0
-TypeIs b at (Fault e) = Unit {0}
-TypeIs b at (Pixels t n end) = (t ≡ get_or b at 0) × (at + 1 ≤ length b)
+TypeIs b at (Err e) = Unit {0}
+TypeIs b at (Ok p) = (p.code ≡ get_or b at 0) × (at + 1 ≤ length b)
 
 type_is : (b : List ℕ) (at left : ℕ) (p : BrunStep) → packet_at b at left ≡ p → TypeIs b at p
 unfolding packet_at packet_of
@@ -39,7 +37,7 @@ type_is b at left p e = subst (TypeIs b at) e
 
     go : (a z k l : Bool) → leb (at + 1) (length b) ≡ a
         → TypeIs b at (cond a
-        (cond z (cond k (cond l (Pixels t (magnitude t) (at + 1 + data_bytes t)) (Fault BodyEnds)) (Fault PastWidth)) (Fault ZeroCount)) (Fault BodyEnds))
+        (cond z (cond k (cond l (Ok (packet_to t (magnitude t) (at + 1 + data_bytes t))) (Err BodyEnds)) (Err PastWidth)) (Err ZeroCount)) (Err BodyEnds))
     go false z k l q = tt
     go true false k l q = tt
     go true true false l q = tt
@@ -96,26 +94,26 @@ module _ (b : List ℕ) (i : Bytes b) where
             ∙ sym (append_assoc vs r.bs (drop end b)));
       })
 
-  packets_read : (left filled at end : ℕ) → filled ≤ left → (packets b left filled at).verdict ≡ verdict.Ends end
+  packets_read : (left filled at end : ℕ) → filled ≤ left → (packets b left filled at).verdict ≡ Ok end
       → Read (packets b left filled at).pixels at end
   unfolding packets
   packets_read zero filled at end h e = record { bs = []; code = none; there = ap (λ (m : ℕ). drop m b) (same_end e) }
     where
-      same_end : verdict.Ends at ≡ verdict.Ends end → at ≡ end
+      same_end : ◌≡◌ {A = Verdict} (Ok at) (Ok end) → at ≡ end
       same_end q = cc
   packets_read (suc left) (suc filled) at end h e = packets_read left filled at end (omega arith) e
   packets_read (suc left) zero at end h e =
       at_packet (packet_at b at (suc left)) (packet_in b at (suc left) _ refl) (type_is b at (suc left) _ refl) e (λ f to l q. packets_read left f to end l q)
     where
       at_packet : (p : BrunStep) → PacketIn b at (suc left) p → TypeIs b at p → (after_packet b at p (λ n to. packets b left (n - 1) to)).verdict
-          ≡ verdict.Ends end
-          → ((f to : ℕ) → f ≤ left → (packets b left f to).verdict ≡ verdict.Ends end → Read (packets b left f to).pixels to end)
+          ≡ Ok end
+          → ((f to : ℕ) → f ≤ left → (packets b left f to).verdict ≡ Ok end → Read (packets b left f to).pixels to end)
           → Read (after_packet b at p (λ n to. packets b left (n - 1) to)).pixels at end
-      at_packet (Fault x) j y e ih = fault_not_end e
-      at_packet (Pixels t n to) j y e ih =
-          let px = (packets b left (n - 1) to).pixels in
-          packet_read at t end px y.0 y.1 (omega (arith, j.0, j.2)) (omega (arith, j.3, j.4))
-          (subst (λ (x : ℕ). Read px x end) (sym j.3) (ih (n - 1) to (omega (arith, j.0, j.1)) e))
+      at_packet (Err x) j y e ih = fault_not_end e
+      at_packet (Ok p) j y e ih =
+          let px = (packets b left (p.count - 1) p.end).pixels in
+          packet_read at p.code end px y.0 y.1 (omega (arith, j.0, j.2)) (omega (arith, j.3, j.4))
+          (subst (λ (x : ℕ). Read px x end) (sym j.3) (ih (p.count - 1) p.end (omega (arith, j.0, j.1)) e))
 
 pub row_reader : (bs s : List ℕ) → RowReader bs s
 row_reader bs s =
@@ -126,7 +124,7 @@ row_reader bs s =
       read_is_encoded = back;
     }
   where
-    back : Bytes bs → packets bs (length s) 0 0 ≡ record { pixels = s; verdict = verdict.Ends (length bs) } → Encodes bs s
+    back : Bytes bs → packets bs (length s) 0 0 ≡ record { pixels = s; verdict = Ok (length bs) } → Encodes bs s
     back i e =
         let r = packets_read bs i (length s) 0 0 (length bs) (omega arith) (ap (λ (x : Run). x.verdict) e) in
         let is : bs ≡ r.bs = r.there ∙ ap (λ (y : List ℕ). r.bs ++ y) (drop_of_length-le bs {i = length bs} (omega arith)) ∙ append-nil r.bs in

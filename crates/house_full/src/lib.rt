@@ -20,14 +20,7 @@ use words::{put_bytes, put_header};
 fn all_zero(picture: &[u8]) -> bool
     ensures { result ≡ all_zero picture.now }
 {
-    let mut i = 0;
-    while i < picture.len() {
-        if picture[i] != 0 {
-            return false;
-        }
-        i += 1;
-    }
-    true
+    picture.iter().all(|x| *x == 0)
 }
 
 // How many pixels of a row differ from the one before. The count is narrow, so that the loop compares many at a time.
@@ -37,29 +30,25 @@ fn row_edges(row: &[u8]) -> u16
 {
     let last = row.len() - 1;
     let mut count: u16 = 0;
-    let mut i = 0;
-    while i < last {
+    for i in 0..last {
         if row[i] != row[i + 1] {
             count += 1;
         }
-        i += 1;
     }
     count
 }
 
+// The functions below take width and height: a `Size` has the format too, on which no full chunk hangs.
+
 // Whether the rows together have more than n edges. Where they do, every full chunk has a body of more than n bytes.
+// The rows are cut by their width: the height is for the contract alone.
 pub fn more_edges(picture: &[u8], width: usize, height: usize, n: usize) -> bool
     requires { Picture width height picture.now }
     ensures { result ≡ ltb n (all_edges width height picture.now) }
 {
     let mut count = 0;
-    let mut from = 0;
-    let mut left = height;
-    while left > 0 {
-        let end = from + width;
-        count = count + row_edges(&picture[from..end]) as usize;
-        from = end;
-        left -= 1;
+    for row in picture.chunks_exact(width) {
+        count += usize::from(row_edges(row));
     }
     n < count
 }
@@ -72,18 +61,17 @@ fn brun_size(plan: &mut [u8], picture: &[u8], width: usize, height: usize) -> us
 {
     let mut size = 0;
     let mut from = 0;
-    let mut left = height;
-    while left > 0 {
+    for _ in 0..height {
         let end = from + width;
         let row = plan_row(&mut plan[from..end], &picture[from..end]);
-        size = size + 1 + row.size;
+        size += 1 + row.bytes;
         from = end;
-        left -= 1;
     }
     size
 }
 
-// A full chunk's kind, and its size, its header included.
+// A full chunk's kind, and its size, its header included. The kind is the format's number: a plan of house_frame has it beside the kinds of
+// other sub-chunks, so that an enum would be turned into the number and back.
 #[derive(Clone, Copy)]
 pub struct FullSize {
     pub kind: usize,
@@ -116,13 +104,6 @@ pub fn measure_full(plan: &mut [u8], picture: &[u8], width: usize, height: usize
     }
 }
 
-// The packet count as the ignored byte has it.
-fn count_byte(count: usize) -> u8
-    ensures { result ≡ min 255 count }
-{
-    if count < 255 { count as u8 } else { 255 }
-}
-
 // Writes a row of the BRUN body. Returns its size.
 fn write_brun_row(out: &mut [u8], at: usize, row: &[u8], first: &[u8]) -> usize
     requires { Wide (length row.now)
@@ -132,7 +113,8 @@ fn write_brun_row(out: &mut [u8], at: usize, row: &[u8], first: &[u8]) -> usize
         × (out.new ≡ put out.old at (brun_row row.now)) }
 {
     let written = write_row(out, at + 1, row, first);
-    out[at] = count_byte(written.packets);
+    // The packet count as the ignored byte has it.
+    out[at] = written.packets.min(255) as u8;
     1 + written.size
 }
 
@@ -153,12 +135,10 @@ fn write_brun(
 {
     let mut here = at;
     let mut from = 0;
-    let mut left = height;
-    while left > 0 {
+    for _ in 0..height {
         let end = from + width;
-        here = here + write_brun_row(out, here, &picture[from..end], &plan[from..end]);
+        here += write_brun_row(out, here, &picture[from..end], &plan[from..end]);
         from = end;
-        left -= 1;
     }
     here - at
 }
@@ -179,15 +159,15 @@ pub fn write_full(
         × (at + length (full_chunk width height picture.now) ≤ length out.old) }
     ensures { out.new ≡ put out.old at (full_chunk width height picture.now) }
 {
-    if kind == FLI_BLACK {
-        put_header(out, at, 6, FLI_BLACK);
-        return;
+    match kind {
+        FLI_BLACK => put_header(out, at, 6, FLI_BLACK),
+        FLI_BRUN => {
+            let size = write_brun(out, at + 6, picture, plan, width, height);
+            put_header(out, at, 6 + size, FLI_BRUN);
+        }
+        _ => {
+            put_header(out, at, 6 + picture.len(), FLI_COPY);
+            put_bytes(out, at + 6, picture);
+        }
     }
-    if kind == FLI_BRUN {
-        let size = write_brun(out, at + 6, picture, plan, width, height);
-        put_header(out, at, 6 + size, FLI_BRUN);
-        return;
-    }
-    put_header(out, at, 6 + picture.len(), FLI_COPY);
-    put_bytes(out, at + 6, picture);
 }

@@ -1,5 +1,5 @@
 -- Laws of a line: the packet count and the packets.
-use mathlib.Core.Path.{◌≡◌, refl, ap, ◌∙◌, subst}
+use mathlib.Core.Path.{◌≡◌, refl, ap, ◌∙◌}
 use mathlib.Core.List.{List, [], ◌∷◌, flat_map}
 use Prim.Native.Nat.{ℕ, ◌+◌, ◌≤◌, ◌<◌}
 use native.Mathlib.Omega.{arith}
@@ -50,12 +50,10 @@ pub record Counted (w : ℕ) (r : Cell) (d e : List ℕ) (at c end : ℕ) : Type
   pub ends : end ≡ at + length (line w r)
   pub stored : set e at c ≡ put d at (line w r)
 
--- s is the row as ranges lend it
-pub line_counted : {w : ℕ} {s r : Cell} {d e : List ℕ} {at c end : ℕ} → s ≡ r → Wide w → at + length (line w r) ≤ length d
-    → Stores (line_packets w s) d (at + 1) e c end → Counted w r d e at c end
+pub line_counted : {w : ℕ} {r : Cell} {d e : List ℕ} {at c end : ℕ} → Wide w → at + length (line w r) ≤ length d
+    → Stores (line_packets w r) d (at + 1) e c end → Counted w r d e at c end
 unfolding line
-line_counted {w} {s} {r} {d} {e} {at} {c} {end} is wide h y =
-    let x : Stores (line_packets w r) d (at + 1) e c end = subst (λ (t : Cell). Stores (line_packets w t) d (at + 1) e c end) is y in
+line_counted {w} {r} {d} {e} {at} {c} {end} wide h x =
     let z = bytes (line_packets w r) in
     let long : length e ≡ length d = ap length x.stored ∙ length_put d (at + 1) z (omega arith) in
     let here : at < length e = omega arith in

@@ -8,11 +8,11 @@ use native.Mathlib.Omega.{arith}
 use native.Mathlib.Nat.{add-zero}
 use lib.ListN.{length, take, drop, get_or, length-append, take-append-drop}
 use lib.Seq.{length-take-le, take_all, drop-drop}
+use Rattle.std.specs.Prelude.{Ok}
 use Rattle.words.specs.Words.{le16}
 use Rattle.words.proofs.There.{there_drop, there_byte, there_long, there_le16}
 use Rattle.walk.proofs.Gives.{Gives, gives_ends, gives_followed, gives_as, gives_to}
-use Rattle.read_lc.specs.Lc.{start_at, row_at, rows, lc}
-use Rattle.read_lc.specs.declared.Start.TheVariants.{Row}
+use Rattle.read_lc.specs.Lc.{start_at, row_at, rows, lc, start_of}
 use Rattle.read_lc.proofs.Laws.{start_whole, row_as, lc_open}
 use Rattle.house_cells.specs.Cells.{Cell, cells, cells_at, news}
 use Rattle.house_cells.specs.declared.Sought.TheVariants.{Unchanged}
@@ -35,10 +35,10 @@ module _ (w : ℕ) (b : List ℕ) where
       let ps = line_packets w r in
       let bs = bytes ps ++ more in
       let count : get_or b at 0 ≡ length ps = ap (λ (i : ℕ). get_or b i 0) (sym (add-zero at)) ∙ there_byte b (length ps ∷ bs) at 0 (length ps) there refl in
-      let start : start_at b at ≡ Row (length ps) (at + 1) =
-      start_whole b at (there_long b (length ps ∷ bs) at 1 there (omega arith) (omega arith)) ∙ ap (λ (n : ℕ). Row n (at + 1)) count in
+      let start : start_at b at ≡ Ok (start_of (length ps) (at + 1)) =
+      start_whole b at (there_long b (length ps ∷ bs) at 1 there (omega arith) (omega arith)) ∙ ap (λ (n : ℕ). Ok (start_of n (at + 1))) count in
       let all : (l : List ℕ) → length l ≡ w → take (w * 1) l ≡ l = (λ l (e : length l ≡ w). take_all (w * 1) l (omega arith)) in
-      gives_as (row_as w b row at (Row (length ps) (at + 1)) start)
+      gives_as (row_as w b row at (Ok (start_of (length ps) (at + 1))) start)
       (gives_to refl (ap (λ (l : List ℕ). pre ++ (l ++ post)) (all r.old lo)) (ap (λ (l : List ℕ). pre ++ (l ++ post)) (all r.new ln))
       (packets_give 1 w b (row_turns 1 3 255 pixels_form w r.old r.new (omega arith) (omega arith)) row (at + 1) 0 more pre post (at + length (line w r))
       (there_drop b (length ps ∷ []) bs at 1 there refl) (omega arith) (omega (arith, ap length (all r.old lo))) (omega arith)))

@@ -1,5 +1,5 @@
 -- Laws of units after a gap: their packets' bytes, and the loops that size and store them.
-use mathlib.Core.Path.{◌≡◌, refl, sym, ap, ◌∙◌}
+use mathlib.Core.Path.{◌≡◌, refl, sym, ap, ap₂, ◌∙◌}
 use mathlib.Core.List.{List, [], ◌∷◌, ◌++◌, flat_map}
 use Prim.Native.Nat.{ℕ, zero, suc, ◌+◌, ◌-◌, ◌*◌, ◌/◌, ◌≤◌, ◌<◌}
 use native.Mathlib.Omega.{arith}
@@ -37,20 +37,44 @@ module _ (longest : ℕ) where
   length_empty zero = refl
   length_empty (suc s) = omega (arith, length_empty s)
 
+  empty_none : empty_packets longest 0 ≡ []
+  unfolding empty_packets
+  empty_none = refl
+
   empty_bytes : (s : ℕ) → bytes (replicate s (copy longest [])) ≡ empty_packets longest s
   unfolding packet_bytes empty_packets flat_map
   empty_bytes zero = refl
   empty_bytes (suc s) = ap (λ (l : List ℕ). longest ∷ 0 ∷ l) (empty_bytes s)
 
-  pub empty_next : (s : ℕ) → 1 ≤ s → empty_packets longest s ≡ longest ∷ 0 ∷ empty_packets longest (s - 1)
-  unfolding empty_packets
-  empty_next zero h = absurd (omega arith)
-  empty_next (suc s) h = let z : s ≡ suc s - 1 = omega arith in ap (λ (i : ℕ). longest ∷ 0 ∷ empty_packets longest i) z
+  -- of all s packets those from packet k on are still to be stored
+  module _ (s : ℕ) (out₀ : List ℕ) (at : ℕ) where
+    abbrev pub Emptying : List ℕ → ℕ → Type 0
+    Emptying out k = Ahead out₀ at (empty_packets longest s) out (at + 2 * k) (empty_packets longest (s - k))
 
-  pub empty_none : (s : ℕ) → s ≤ 0 → empty_packets longest s ≡ []
-  unfolding empty_packets
-  empty_none zero h = refl
-  empty_none (suc s) h = absurd (omega arith)
+    pub emptying_first : at + 2 * s ≤ length out₀ → Emptying out₀ 0
+    emptying_first h =
+        let here : at ≡ at + 2 * 0 = omega arith in
+        let all : empty_packets longest s ≡ empty_packets longest (s - 0) = let z : s ≡ s - 0 = omega arith in ap (empty_packets longest) z in
+        record { same = ap₂ (put out₀) here all; ends = omega (arith, ap length all); room = omega (arith, length_empty s); long = refl }
+
+    module _ (out : List ℕ) (k : ℕ) (r : Emptying out k) where
+      module _ (h : k < s) where
+        next : empty_packets longest (s - k) ≡ longest ∷ 0 ∷ empty_packets longest (s - (k + 1))
+        unfolding empty_packets
+        next = let z : s - k ≡ suc (s - (k + 1)) = omega arith in ap (empty_packets longest) z
+
+        pub emptying_room : at + 2 * k + 2 ≤ length out
+        emptying_room = ahead_room out₀ at (empty_packets longest s) r (longest ∷ 0 ∷ []) (empty_packets longest (s - (k + 1))) next
+
+        pub emptying_on : (out' : List ℕ) → out' ≡ put out (at + 2 * k) (longest ∷ 0 ∷ []) → Emptying out' (k + 1)
+        emptying_on out' e =
+            ahead_on out₀ at (empty_packets longest s) r (longest ∷ 0 ∷ []) (empty_packets longest (s - (k + 1))) next out' (at + 2 * (k + 1)) (omega arith) e
+
+      pub emptying_ends : s ≤ k → out ≡ put out₀ at (empty_packets longest s)
+      emptying_ends h = (ahead_ends out₀ at (empty_packets longest s) r none).1
+        where
+          none : empty_packets longest (s - k) ≡ []
+          none = let z : s - k ≡ 0 = omega arith in ap (empty_packets longest) z ∙ empty_none
 
 bytes_none : bytes [] ≡ []
 bytes_none = flat_map_nil packet_bytes

@@ -6,14 +6,14 @@ use native.Mathlib.Omega.{arith}
 use native.Mathlib.Nat.{add-zero}
 use lib.ListN.{length, drop, get_or, length-append}
 use borrow.Author.Tests.{le-leb}
+use Rattle.std.specs.Prelude.{Ok}
 use Rattle.words.specs.Words.{magnitude}
 use Rattle.words.specs.Writes.{put}
 use Rattle.words.proofs.Laws.{magnitude_plus, magnitude_minus}
 use Rattle.words.proofs.There.{there_drop, there_take, there_byte, there_long, put_at}
 use Rattle.walk.proofs.Gives.{Gives, gives_ends, gives_then, gives_as, gives_to}
 use Rattle.read_packets.specs.Packets as walk
-use Rattle.read_packets.specs.Packets.{repeated, data_bytes, pixels, packet_of, packet_at}
-use Rattle.read_packets.specs.declared.PacketStep.TheVariants.{Pixels}
+use Rattle.read_packets.specs.Packets.{packet_to, repeated, data_bytes, pixels, packet_of, packet_at}
 use Rattle.read_packets.proofs.Laws.{length_repeated, data_copy, data_repeat, pixels_copy, pixels_repeat, packets_none, packets_more}
 use Rattle.house_packets.specs.Packets.{Packet, packet_bytes, bytes}
 use Rattle.house_packets.proofs.Turns.{Turns, done, copied, again}
@@ -24,7 +24,7 @@ back n h = omega arith
 module _ (unit w : ℕ) (b : List ℕ) where
   packet_there : (at x k t : ℕ) → at + 2 ≤ length b → get_or b at 0 ≡ k → get_or b (at + 1) 0 ≡ t → x + k + unit * magnitude t ≤ w
       → at + 2 + data_bytes unit t ≤ length b
-      → packet_at unit w b at x ≡ Pixels t (x + k) (x + k + unit * magnitude t) (at + 2 + data_bytes unit t)
+      → packet_at unit w b at x ≡ Ok (packet_to t (x + k) (x + k + unit * magnitude t) (at + 2 + data_bytes unit t))
   unfolding packet_at packet_of
   packet_there at x k t two ek et fits there =
       simp (le-leb (at + 2) (length b) two, ek, et, le-leb (x + k + unit * magnitude t) w fits, le-leb (at + 2 + data_bytes unit t) (length b) there)

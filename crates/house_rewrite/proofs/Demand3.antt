@@ -12,6 +12,7 @@ use lib.Dec.{leb}
 use lib.ListN.{length, take, drop, length-append}
 use lib.Seq.{take_at}
 use borrow.Author.Tests.{le-leb, ne_eqb}
+use Rattle.std.specs.Prelude.{Ok, Err}
 use Rattle.words.specs.Words.{require◌else◌then◌, u32_at, chunk, same, Bytes}
 use Rattle.words.specs.Writes.{Write, put, applied}
 use Rattle.words.proofs.Laws.{put_front, same_eq, length_chunk, bytes_take}
@@ -19,10 +20,8 @@ use Rattle.words.proofs.Tests.{by_test}
 use Rattle.format.specs.Format.{FLI_COLOR256, FLI_BLACK, FLI_BRUN, FLI_COPY}
 use Rattle.format.specs.Limits.{area, size_fits}
 use Rattle.format.specs.declared.Size.{Size}
-use Rattle.answer.specs.Answer.{Said, done, refused}
+use Rattle.answer.specs.Answer.{Said, done, refused, Answer}
 use Rattle.answer.specs.declared.Refusal.TheVariants.{ShortSlice, NoRoom}
-use Rattle.answer.specs.declared.Answer.{Answer}
-use Rattle.answer.specs.declared.Answer.TheVariants.{Done, Refused}
 use Rattle.state.specs.State.{State, state, enough, front, Exact}
 use Rattle.state.specs.Outcome.{Outcome, lent_bytes, lent_bytes_pair, leaves, refuse, fitted}
 use Rattle.state.proofs.Laws.{enough_is, front_exact, passed}
@@ -30,7 +29,6 @@ use Rattle.house_colour.specs.Colours.{colour_body}
 use Rattle.house_colour.proofs.ReadsBack.{colour_short}
 use Rattle.house_full.specs.Full.{full_chunk}
 use Rattle.house_full.proofs.FullLeast.{FullLeast, full_least}
-use Rattle.walk.specs.declared.Verdict.TheVariants.{Ends}
 use Rattle.read_chunk.specs.Chunk.{ChunkWalk, sub_chunk}
 use Rattle.read_frame.specs.Frame.{FrameWalk, frame}
 use Rattle.read_frame.specs.Reading.{played, read_by, read_frame}
@@ -58,7 +56,7 @@ refused_not_done e = let z : ◌≡◌ {A = ℕ} 0 1 = cc in absurd (omega arith
 record Taken (z : Size) (previous : State) (b : List ℕ) : Type 0 where
   pub size : size_fits z ≡ true
   pub room : enough (area z) previous ≡ true
-  pub answer : (frame z b).answer ≡ Done
+  pub answer : (frame z b).answer ≡ Ok tt
 
 taken : (z : Size) (previous : State) (b : List ℕ) → Accepted z previous b → Taken z previous b
 unfolding read_frame
@@ -68,9 +66,9 @@ taken z previous b e =
     let r = passed said (enough (area z) previous) s.1 e refl in
     record { size = s.0; room = r.0; answer = answered (frame z b).answer (ap said r.1 ∙ e) }
   where
-    answered : (a : Answer) → (read_by (area z) (frame z b) a previous).said ≡ done [] → a ≡ Done
-    answered Done k = refl
-    answered (Refused x place) k = refused_not_done k
+    answered : (a : Answer) → (read_by (area z) (frame z b) a previous).said ≡ done [] → a ≡ Ok tt
+    answered (Ok u) k = refl
+    answered (Err r) k = refused_not_done k
 
 module _ (z : Size) (previous : State) where
   -- the previous state
@@ -85,8 +83,8 @@ module _ (z : Size) (previous : State) where
     was_exact : Exact z was
     was_exact = front_exact z previous t.size (area z) refl t.room
 
-    reads : read_frame b z previous ≡ read_by (area z) (frame z b) Done previous
-    reads = read_by_lem b z previous t.size t.room Done t.answer
+    reads : read_frame b z previous ≡ read_by (area z) (frame z b) (Ok tt) previous
+    reads = read_by_lem b z previous t.size t.room (Ok tt) t.answer
 
     -- accepted, the other way round
     accepted : Accepted z previous b
@@ -225,7 +223,7 @@ full_shorter z f p q kind size lp k c e =
     least : FullLeast z.width z.height c.body p q c.end
     least = full_least z.width z.height c.body p q c.end lp
 
-    go : {kind : ℕ} → FullKind kind → (sub_chunk z kind c.body).verdict ≡ Ends c.end → applied (sub_chunk z kind c.body).pixels p ≡ q
+    go : {kind : ℕ} → FullKind kind → (sub_chunk z kind c.body).verdict ≡ Ok c.end → applied (sub_chunk z kind c.body).pixels p ≡ q
         → length (full_chunk z.width z.height q) ≤ size
     go words.black v r =
         omega (

@@ -5,10 +5,8 @@ use mathlib.Core.Bool.{true, false}
 use Prim.Native.Nat.{ℕ}
 use Rattle.format.specs.Limits.{area, size_fits}
 use Rattle.format.specs.declared.Size.{Size}
-use Rattle.answer.specs.Answer.{told_written}
+use Rattle.answer.specs.Answer.{told_written, Answer, Written}
 use Rattle.answer.specs.declared.Refusal.TheVariants.{ShortSlice, BadSize}
-use Rattle.answer.specs.declared.Answer.{Answer}
-use Rattle.answer.specs.declared.Written.{Written}
 use Rattle.state.specs.State.{State, state, enough, front, refilled}
 use Rattle.state.specs.Outcome.{Outcome, lent_bytes, lent_bytes_pair, leaves, refuse, fitted}
 use Rattle.read_frame.specs.Frame.{frame}

@@ -6,18 +6,11 @@ use native.Mathlib.Nat.{add-sub_cancel_left}
 use native.Mathlib.Omega.{arith}
 use lib.ListN.{length, take, drop}
 use lib.Seq.{take_all}
+use Rattle.std.specs.Prelude.{Ok, Err}
 use Rattle.words.specs.Words.{part, chunk}
 use Rattle.words.proofs.Laws.{span_length}
-use Rattle.answer.specs.declared.Refusal.{Refusal}
-use Rattle.walk.specs.declared.Verdict.{Verdict}
-use Rattle.walk.specs.declared.Verdict.TheVariants as verdict
-use Rattle.answer.specs.declared.Answer.{Answer}
-use Rattle.answer.specs.declared.Answer.TheVariants.{Done, Refused}
-use Rattle.chunks.specs.Headers.{header_at, frame_header}
+use Rattle.chunks.specs.Headers.{header_at, frame_header, chunk_to, Whole}
 use Rattle.chunks.specs.Spans.{Span, Spans, sub_spans}
-use Rattle.chunks.specs.declared.FrameHeader.{FrameHeader}
-use Rattle.chunks.specs.declared.FrameHeader.TheVariants as whole
-use Rattle.chunks.specs.declared.Header.TheVariants.{Chunk}
 use Rattle.chunks.proofs.Headers.{header_in_lem}
 use Rattle.chunks.proofs.Spans.{subs_none, subs_step, subs_by}
 use Rattle.read_chunk.specs.Chunk.{sub_chunk}
@@ -26,11 +19,14 @@ use Rattle.format.specs.declared.Size.{Size}
 use Rattle.house_frame.specs.House.{framed}
 use Rattle.house_back.proofs.Frames.{chunk_there, more_there, framed_header, framed_subs}
 use Rattle.house_rewrite.specs.Demand3.{Sub, sized, subs_at, after_whole, subs_of}
+use Rattle.answer.specs.Answer.{Answer}
+use Rattle.walk.specs.Walk.{Verdict}
+use Rattle.answer.specs.declared.Refused.{Refused}
 
 never : {C A : Type 0} {x : A} {xs : List A} → [] ≡ x ∷ xs → C
 never e = let z : ◌≡◌ {A = ℕ} 0 1 = cc in absurd (omega arith)
 
-refused_not_done : {C : Type 0} {e : Refusal} {at : ℕ} → Refused e at ≡ Done → C
+refused_not_done : {C : Type 0} {r : Refused} → ◌≡◌ {A = Answer} (Err r) (Ok tt) → C
 refused_not_done e = let z : ◌≡◌ {A = ℕ} 0 1 = cc in absurd (omega arith)
 
 -- two lists of sub-chunks, the second of one
@@ -48,14 +44,14 @@ pub data Described : List (List ℕ) → List Sub → Type 0 where
   more : {subs : List (List ℕ)} {ks : List Sub} (kind : ℕ) (body : List ℕ) → 6 + length body < 4294967296 → Described subs ks
       → Described (chunk kind body ∷ subs) (record { kind = kind; size = 6 + length body } ∷ ks)
 
-subs_more : (b : List ℕ) (n at kind end : ℕ) → header_at b at ≡ Chunk kind end → subs_at b (suc n) at ≡ record {
+subs_more : (b : List ℕ) (n at kind end : ℕ) → header_at b at ≡ Ok (chunk_to kind end) → subs_at b (suc n) at ≡ record {
   kind = kind;
   size = end - at;
 } ∷ subs_at b n end
 unfolding subs_at
 subs_more b n at kind end q =
     let k : suc n - 1 ≡ n = omega arith in
-    ap (λ (x : Spans). sized x.met) (subs_step b (suc n) at (omega arith) (Chunk kind end) q)
+    ap (λ (x : Spans). sized x.met) (subs_step b (suc n) at (omega arith) (Ok (chunk_to kind end)) q)
     ∙ ap (λ (m : ℕ). record { kind = kind; size = end - at } ∷ sized (sub_spans b m end).met) k
 
 subs_over : (b : List ℕ) (at : ℕ) → subs_at b 0 at ≡ []
@@ -85,12 +81,12 @@ pub record Single (z : Size) (f : FrameWalk) (kind size : ℕ) : Type 0 where
   pub body : List ℕ
   pub end : ℕ
   pub long : 6 + length body ≡ size
-  pub ended : (sub_chunk z kind body).verdict ≡ verdict.Ends end
+  pub ended : (sub_chunk z kind body).verdict ≡ Ok end
   pub pixels : f.pixels ≡ (sub_chunk z kind body).pixels ++ []
 
-after_done : (at : ℕ) (v : Verdict) (r : Answer) → answer_after at v r ≡ Done → ((end : ℕ) × (v ≡ verdict.Ends end)) × (r ≡ Done)
-after_done at (verdict.Ends end) r e = ((end, refl), e)
-after_done at (verdict.Fault x) r e = refused_not_done e
+after_done : (at : ℕ) (v : Verdict) (r : Answer) → answer_after at v r ≡ Ok tt → ((end : ℕ) × (v ≡ Ok end)) × (r ≡ Ok tt)
+after_done at (Ok end) r e = ((end, refl), e)
+after_done at (Err x) r e = refused_not_done e
 
 module _ (z : Size) (b : List ℕ) where
   -- no sub-chunk left
@@ -98,18 +94,18 @@ module _ (z : Size) (b : List ℕ) where
   acted_over [] a e = refl
   acted_over (s ∷ ss) a e = never (sym e)
 
-  chunks_single : (n at kind size : ℕ) → (sub_chunks z b n at).answer ≡ Done → subs_at b n at ≡ record { kind = kind; size = size } ∷ []
+  chunks_single : (n at kind size : ℕ) → (sub_chunks z b n at).answer ≡ Ok tt → subs_at b n at ≡ record { kind = kind; size = size } ∷ []
       → Single z (sub_chunks z b n at) kind size
   unfolding sub_chunks subs_at
   chunks_single n at kind size =
-      subs_by b (λ (m k : ℕ) (s : Spans). (acted z b s.met s.answer).answer ≡ Done → sized s.met ≡ record {
+      subs_by b (λ (m k : ℕ) (s : Spans). (acted z b s.met s.answer).answer ≡ Ok tt → sized s.met ≡ record {
         kind = kind;
         size = size;
       } ∷ [] → Single z (acted z b s.met s.answer) kind size)
       (λ k a e. never e) (λ m k r q a e. never e) (λ m k kind' end i rest a e. one m k kind' end i a e) n at
     where
-      one : (m k kind' end : ℕ) → header_at b k ≡ Chunk kind' end
-          → (chunk_then k (sub_chunk z kind' (part b (k + 6) end)) (acted z b (sub_spans b m end).met (sub_spans b m end).answer)).answer ≡ Done
+      one : (m k kind' end : ℕ) → header_at b k ≡ Ok (chunk_to kind' end)
+          → (chunk_then k (sub_chunk z kind' (part b (k + 6) end)) (acted z b (sub_spans b m end).met (sub_spans b m end).answer)).answer ≡ Ok tt
           → record { kind = kind'; size = end - k } ∷ sized (sub_spans b m end).met ≡ record { kind = kind; size = size } ∷ []
           → Single z (chunk_then k (sub_chunk z kind' (part b (k + 6) end)) (acted z b (sub_spans b m end).met (sub_spans b m end).answer)) kind size
       one m k kind' end i a e =
@@ -121,7 +117,7 @@ module _ (z : Size) (b : List ℕ) where
           let same_size : end - k ≡ size = ap (λ (x : Sub). x.size) first in
           let over = none_left this that (sized ss) e in
           let body = part b (k + 6) end in
-          let inside = header_in_lem b k (Chunk kind' end) i in
+          let inside = header_in_lem b k (Ok (chunk_to kind' end)) i in
           let (went, done) = after_done k (sub_chunk z kind' body).verdict (acted z b ss (sub_spans b m end).answer).answer a in
           subst (λ (x : ℕ). Single z (chunk_then k (sub_chunk z kind' body) (acted z b ss (sub_spans b m end).answer)) x size) same_kind
           (record {
@@ -134,12 +130,12 @@ module _ (z : Size) (b : List ℕ) where
                 ∙ ap (λ (l : List _). (sub_chunk z kind' body).pixels ++ l) (acted_over ss (sub_spans b m end).answer over);
           })
 
-pub frame_single : (z : Size) (c : List ℕ) (kind size : ℕ) → (frame z c).answer ≡ Done → subs_of c ≡ record { kind = kind; size = size } ∷ []
+pub frame_single : (z : Size) (c : List ℕ) (kind size : ℕ) → (frame z c).answer ≡ Ok tt → subs_of c ≡ record { kind = kind; size = size } ∷ []
     → Single z (frame z c) kind size
 unfolding frame subs_of
 frame_single z c kind size a e = go (frame_header c) a e
   where
-    go : (x : FrameHeader) → (after_frame_header z c x).answer ≡ Done → after_whole c x ≡ record { kind = kind; size = size } ∷ []
+    go : (x : Whole) → (after_frame_header z c x).answer ≡ Ok tt → after_whole c x ≡ record { kind = kind; size = size } ∷ []
         → Single z (after_frame_header z c x) kind size
-    go (whole.Fault r) a e = never e
-    go (whole.Frame count n) a e = chunks_single z (take n c) count 16 kind size a e
+    go (Err r) a e = never e
+    go (Ok h) a e = chunks_single z (take h.size c) h.count 16 kind size a e

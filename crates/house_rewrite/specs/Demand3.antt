@@ -1,6 +1,6 @@
 -- Demand 3 of the mission, in terms of `rewrite_frame`, which the contract of `rewrite_frame` equates with the code.
 -- Its words are those of document 01, "Words of demand 3". The theorem is `demand3` (proofs/Demand3.antt).
-use Rattle.std.specs.Prelude.{ℕ, ◌-◌, ◌≤◌, ◌≡◌, List, [], ◌∷◌, eqb, length, take, cond}
+use Rattle.std.specs.Prelude.{ℕ, ◌-◌, ◌≤◌, ◌≡◌, List, [], ◌∷◌, eqb, length, take, cond, Ok, Err}
 use Rattle.words.specs.Words.{u32_at, Bytes}
 use Rattle.answer.specs.Answer.{Said, done, refused}
 use Rattle.state.specs.State.{State, front}
@@ -8,11 +8,9 @@ use Rattle.state.specs.Outcome.{Outcome}
 use Rattle.format.specs.Limits.{area}
 use Rattle.format.specs.declared.Size.{Size}
 use Rattle.format.specs.Format.{FLI_COLOR256, FLI_BLACK, FLI_BRUN, FLI_COPY}
-use Rattle.chunks.specs.Headers.{frame_header}
+use Rattle.chunks.specs.Headers.{frame_header, Whole}
 use Rattle.chunks.specs.Spans.{Span, sub_spans}
 use Rattle.read_frame.specs.Reading.{read_frame}
-use Rattle.chunks.specs.declared.FrameHeader.{FrameHeader}
-use Rattle.chunks.specs.declared.FrameHeader.TheVariants as whole
 use Rattle.house_frame.specs.House.{frame_most}
 use Rattle.house_rewrite.specs.Rewriting.{rewrite_frame}
 
@@ -45,9 +43,9 @@ unfolding sub_spans
 subs_at b n at = sized (sub_spans b n at).met
 
 -- the sub-chunks of a frame
-abbrev pub after_whole : List ℕ → FrameHeader → List Sub
-after_whole b (whole.Fault e) = []
-after_whole b (whole.Frame count size) = subs_at (take size b) count 16
+abbrev pub after_whole : List ℕ → Whole → List Sub
+after_whole b (Err e) = []
+after_whole b (Ok h) = subs_at (take h.size b) h.count 16
 
 unfoldable pub subs_of : List ℕ → List Sub
 unfolding frame_header subs_at

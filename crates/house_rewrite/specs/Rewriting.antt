@@ -1,16 +1,15 @@
 -- Rewriting one frame: read against the previous state into the lent working pair, and written in house form from the previous state to the one read.
-use Rattle.std.specs.Prelude.{ℕ, List, ◌&&◌}
+use Rattle.std.specs.Prelude.{ℕ, List, ◌&&◌, Ok, Err}
 use Rattle.words.specs.Words.{require◌else◌then◌}
 use Rattle.format.specs.Limits.{area, size_fits}
 use Rattle.format.specs.declared.Size.{Size}
 use Rattle.answer.specs.declared.Refusal.TheVariants.{ShortSlice, BadSize}
-use Rattle.answer.specs.declared.Answer.{Answer}
-use Rattle.answer.specs.declared.Answer.TheVariants.{Done, Refused}
 use Rattle.state.specs.State.{State, enough, front, refilled}
 use Rattle.state.specs.Outcome.{Outcome, lent_bytes_pair, leaves, refuse, fitted}
 use Rattle.read_frame.specs.Frame.{FrameWalk, frame}
 use Rattle.read_frame.specs.Reading.{played}
 use Rattle.house_frame.specs.House.{house_frame}
+use Rattle.answer.specs.Answer.{Answer}
 
 -- "A rewrite's pair holds the next state when done or refused 3": what is left of the output, and beside it the working pair
 abbrev pub rewrote : Size → State → State → State → List ℕ → Outcome
@@ -20,8 +19,8 @@ rewrote size previous next work out =
 
 -- what a frame that is answered so leads to: ".. else stays"
 abbrev pub rewrite_by : Size → FrameWalk → Answer → State → State → List ℕ → Outcome
-rewrite_by size f Done previous work out = rewrote size previous (played f previous) work out
-rewrite_by size f (Refused e place) previous work out = refuse e place (lent_bytes_pair out work)
+rewrite_by size f (Ok u) previous work out = rewrote size previous (played f previous) work out
+rewrite_by size f (Err r) previous work out = refuse r.0 r.1 (lent_bytes_pair out work)
 
 -- "Writing: .. 2, 1, 3; a rewrite gives the frame's own refusals before 3"
 unfoldable pub rewrite_frame : List ℕ → Size → State → State → List ℕ → Outcome

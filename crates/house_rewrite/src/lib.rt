@@ -3,16 +3,16 @@
 
 ghost use Rattle.std.specs.Prelude.{◌≡◌};
 ghost use Rattle.answer.specs.Answer.{told_written};
-ghost use Rattle.state.specs.State.{state, Exact};
+ghost use Rattle.state.specs.State.{state, shown, Exact};
 ghost use Rattle.state.specs.Outcome.{lent_bytes, lent_bytes_pair, leaves, fitted};
 ghost use Rattle.read_frame.specs.Frame.{frame};
 ghost use Rattle.read_frame.specs.Reading.{played};
 ghost use Rattle.house_frame.specs.House.{house_frame};
 ghost use Rattle.house_rewrite.specs.Rewriting.{rewrite_frame};
 
-use answer::{Refusal, Written};
+use answer::{Refusal, Refused};
 use format::{PALETTE_BYTES, Size};
-use state::holds;
+use state::{Pair, holds};
 use walk::Pass;
 
 // Plays a frame, which was accepted, on a copy of the previous state, and writes the house frame that leads there.
@@ -21,69 +21,58 @@ fn rewrite_accepted(
     work_palette: &mut [u8],
     out: &mut [u8],
     bytes: &[u8],
-    previous_picture: &[u8],
-    previous_palette: &[u8],
+    previous: Pair<'_>,
     size: Size,
-) -> Written
-    requires { Exact size (state work_picture.old work_palette.old) × Exact size (state previous_picture.now previous_palette.now) }
+) -> Result<usize, Refused>
+    requires { Exact size (state work_picture.old work_palette.old) × Exact size (shown previous) }
     ensures picture { work_picture.new
-        ≡ (played (frame size bytes.now) (state previous_picture.now previous_palette.now)).picture }
+        ≡ (played (frame size bytes.now) (shown previous.entry)).picture }
     ensures palette { work_palette.new
-        ≡ (played (frame size bytes.now) (state previous_picture.now previous_palette.now)).palette }
+        ≡ (played (frame size bytes.now) (shown previous.entry)).palette }
     ensures output { leaves (told_written result) (lent_bytes out.new)
-        ≡ fitted (house_frame size (state previous_picture.now previous_palette.now)
-        (played (frame size bytes.now) (state previous_picture.now previous_palette.now))) out.old }
+        ≡ fitted (house_frame size (shown previous.entry)
+        (played (frame size bytes.now) (shown previous.entry))) out.old }
 {
-    words::copy(work_picture, previous_picture);
-    words::copy(work_palette, previous_palette);
-    read_frame::walk_frame(work_picture, work_palette, bytes, size, Pass::Wet);
-    house_frame::write_house(
-        out,
-        previous_picture,
-        previous_palette,
-        work_picture,
-        work_palette,
-        size,
-    )
+    words::copy(work_picture, previous.picture);
+    words::copy(work_palette, previous.palette);
+    let _ = read_frame::walk_frame(work_picture, work_palette, bytes, size, Pass::Wet);
+    let next = Pair {
+        picture: work_picture,
+        palette: work_palette,
+    };
+    house_frame::write_house(out, previous, next, size)
 }
 
 // Reads a frame against the previous picture and palette into the working pair, and writes it in house form.
 pub fn rewrite_frame(
     bytes: &[u8],
     size: Size,
-    previous_picture: &[u8],
-    previous_palette: &[u8],
+    previous: Pair<'_>,
     work_picture: &mut [u8],
     work_palette: &mut [u8],
     out: &mut [u8],
-) -> Written
+) -> Result<usize, Refused>
     ensures { leaves (told_written result) (lent_bytes_pair out.new (state work_picture.new work_palette.new))
-        ≡ rewrite_frame bytes.now size (state previous_picture.now previous_palette.now)
+        ≡ rewrite_frame bytes.now size (shown previous.entry)
         (state work_picture.old work_palette.old) out.old }
 {
     if !format::size_fits(size) {
-        return Written::Refused(Refusal::BadSize, 0);
+        return Err(Refused(Refusal::BadSize, 0));
     }
     let n = size.width * size.height;
-    if !holds(previous_picture.len(), previous_palette.len(), n) {
-        return Written::Refused(Refusal::ShortSlice, 0);
+    if !previous.holds(n) {
+        return Err(Refused(Refusal::ShortSlice, 0));
     }
     if !holds(work_picture.len(), work_palette.len(), n) {
-        return Written::Refused(Refusal::ShortSlice, 0);
+        return Err(Refused(Refusal::ShortSlice, 0));
     }
-    match read_frame::check_frame(bytes, size) {
-        answer::Answer::Refused(e, place) => {
-            return Written::Refused(e, place);
-        }
-        answer::Answer::Done => {}
-    }
+    read_frame::check_frame(bytes, size)?;
     rewrite_accepted(
         &mut work_picture[..n],
         &mut work_palette[..PALETTE_BYTES],
         out,
         bytes,
-        &previous_picture[..n],
-        &previous_palette[..PALETTE_BYTES],
+        previous.front(n),
         size,
     )
 }

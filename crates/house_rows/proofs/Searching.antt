@@ -168,77 +168,73 @@ searching_last row sums first far w i whole high last long long_first long_far =
     sum_is : w + 1 ≡ reach row i
     sum_is = omega (arith, reach_noted row i 2 1 note)
 
-module _ {row sums first far : List ℕ} {w t : ℕ} {repeat : Repeat} {split : ℕ} {near : End} {here count : ℕ} (i : ℕ) (next : i + 1 ≡ t)
-    (s : Searching row w sums first far t repeat split near here count)
+-- a pixel is left before pixel t
+pub left_of : {row sums first far : List ℕ} {w t : ℕ} {repeat : Repeat} {split : ℕ} {near : End} {here count : ℕ} → 0 < t
+    → Searching row w sums first far t repeat split near here count → Searching row w sums first far (t - 1 + 1) repeat split near here count
+left_of {row} {sums} {first} {far} {w} {t} {repeat} {split} {near} {here} {count} h s =
+    let e : t ≡ t - 1 + 1 = omega arith in subst (λ (n : ℕ). Searching row w sums first far n repeat split near here count) e s
+
+module _ {row sums first far : List ℕ} {w : ℕ} {repeat : Repeat} {split : ℕ} {near : End} {here count : ℕ} (i : ℕ)
+    (s : Searching row w sums first far (i + 1) repeat split near here count)
   where
     within : i + 1 < length row
     within = omega (arith, s.whole, s.inside)
 
-    known_next : Known row sums first (i + 1)
-    known_next = subst (λ (n : ℕ). Known row sums first n) (sym next) s.known
-
     -- the repeat at the next pixel
 
-    pub run_fits : (repeat.run ≤ 127) × (1 ≤ repeat.run) × (t + repeat.run ≤ w)
-    run_fits = omega (arith, s.longest.run_is, run_bound (drop t row), run_some row t (omega (arith, s.whole, s.inside)), length-drop t row, s.whole, s.inside)
+    pub run_fits : (repeat.run ≤ 127) × (1 ≤ repeat.run) × (i + 1 + repeat.run ≤ w)
+    run_fits =
+        omega (
+          arith,
+          s.longest.run_is,
+          run_bound (drop (i + 1) row),
+          run_some row (i + 1) (omega (arith, s.whole, s.inside)),
+          length-drop (i + 1) row,
+          s.whole,
+          s.inside,
+        )
 
-    shortened : (q : Repeat) → Shortened sums i repeat q → (q.run ≡ min 126 repeat.run) × (q.sum ≡ reach row (t + q.run))
+    shortened : (q : Repeat) → Shortened sums i repeat q → (q.run ≡ min 126 repeat.run) × (q.sum ≡ reach row (i + 1 + q.run))
     shortened q c =
-        ⊎_elim {C = (q.run ≡ min 126 repeat.run) × (q.sum ≡ reach row (t + q.run))}
+        ⊎_elim {C = (q.run ≡ min 126 repeat.run) × (q.sum ≡ reach row (i + 1 + q.run))}
         (λ (h : 127 ≤ repeat.run).
         let e : q.run ≡ 126 = ap (λ (x : Repeat). x.run) (c.long h) in
-        let p : i + 127 ≡ t + q.run = omega arith in (
+        let p : i + 127 ≡ i + 1 + q.run = omega arith in (
           omega arith,
-          ap (λ (x : Repeat). x.sum) (c.long h) ∙ known_next.reached (i + 127) (omega arith) (omega (arith, run_fits, s.whole)) ∙ ap (reach row) p,
+          ap (λ (x : Repeat). x.sum) (c.long h) ∙ s.known.reached (i + 127) (omega arith) (omega (arith, run_fits, s.whole)) ∙ ap (reach row) p,
         ))
         (λ (h : repeat.run < 127). rw (c.short h) (omega arith, s.longest.sum_is))
         (le_or_lt 127 repeat.run)
 
-    pub shortened_run : (q : Repeat) → Shortened sums i repeat q → q.run ≤ 126
-    shortened_run q c = omega (arith, (shortened q c).0)
-
     -- with pixel i before it
-    pub longest_more : (q r : Repeat) → Shortened sums i repeat q → Lengthened (get_or row i 0) (get_or row t 0) here q r → Longest row i r
-    longest_more q r c l = by_case (dec_eq (get_or row i 0) (get_or row t 0))
+    pub longest_more : (q r : Repeat) → Shortened sums i repeat q → Lengthened (get_or row i 0) (get_or row (i + 1) 0) here q r → Longest row i r
+    longest_more q r c l = by_case (dec_eq (get_or row i 0) (get_or row (i + 1) 0))
       where
-        pixel : get_or row t 0 ≡ get_or row (i + 1) 0
-        pixel = ap (λ (n : ℕ). get_or row n 0) (sym next)
-
-        run_at : run (drop (i + 1) row) ≡ repeat.run
-        run_at = ap (λ (n : ℕ). run (drop n row)) next ∙ sym s.longest.run_is
-
-        by_case : Dec (get_or row i 0 ≡ get_or row t 0) → Longest row i r
+        by_case : Dec (get_or row i 0 ≡ get_or row (i + 1) 0) → Longest row i r
         by_case (yes e) =
-            let p : t + q.run ≡ i + (q.run + 1) = omega arith in
+            let p : i + 1 + q.run ≡ i + (q.run + 1) = omega arith in
             rw (l.same e)
             (record {
-              run_is = omega (arith, (shortened q c).0, run_equal row i within (e ∙ pixel), run_at, run_fits);
+              run_is = omega (arith, (shortened q c).0, run_equal row i within e, s.longest.run_is, run_fits);
               sum_is = (shortened q c).1 ∙ ap (reach row) p;
             })
         by_case (no n) =
             rw (l.other n)
             (record {
-              run_is = sym (run_apart row i within (λ e. n (e ∙ sym pixel)));
-              sum_is = s.here_is ∙ ap (reach row) (sym next);
+              run_is = sym (run_apart row i within n);
+              sum_is = s.here_is;
             })
 
     -- the window at the next pixel
 
-    sums_next : (j : ℕ) → t ≤ j → j ≤ w → sum_at sums j ≡ reach row j
+    sums_next : (j : ℕ) → i + 1 ≤ j → j ≤ w → sum_at sums j ≡ reach row j
     sums_next j l h = s.known.reached j l (omega (arith, s.whole))
 
-    pub here_noted : here ≡ sum_at sums t
-    here_noted = s.here_is ∙ sym (sums_next t (omega arith) (omega (arith, s.inside)))
-
-    pub window_before : Window (sum_at sums) w (t + 1) split near far
-    window_before = window_agreed (reach row) (sum_at sums) w (t + 1) split near far (λ j l h. sym (sums_next j (omega arith) h)) s.window
-
-    module _ {q : Repeat} {end : End} (longest : Longest row i q) (lowest : LowestEnd (sum_at sums) t (min (t + 127) w) end) where
+    module _ {q : Repeat} {end : End} (longest : Longest row i q) (lowest : LowestEnd (sum_at sums) (i + 1) (min (i + 1 + 127) w) end) where
       low : LowestEnd (reach row) (i + 1) (min (i + 128) (length row)) end
       low =
-          subst (λ (a : ℕ). LowestEnd (reach row) a (min (i + 128) (length row)) end) (sym next)
-          (subst (λ (b : ℕ). LowestEnd (reach row) t b end) (the (min (t + 127) w ≡ min (i + 128) (length row)) (omega (arith, s.whole)))
-          (end_agreed (sum_at sums) (reach row) t (min (t + 127) w) end (λ j l h. sums_next j l (omega arith)) lowest))
+          subst (λ (b : ℕ). LowestEnd (reach row) (i + 1) b end) (the (min (i + 1 + 127) w ≡ min (i + 128) (length row)) (omega (arith, s.whole)))
+          (end_agreed (sum_at sums) (reach row) (i + 1) (min (i + 1 + 127) w) end (λ j l h. sums_next j l (omega arith)) lowest)
 
       end_in : (i < end.place) × (end.place ≤ i + 128) × (end.place ≤ length row)
       end_in = omega (arith, low.lowest.low, low.lowest.high)
@@ -291,7 +287,7 @@ module _ {row sums first far : List ℕ} {w t : ℕ} {repeat : Repeat} {split : 
         sum_small = omega (arith, sum_is, reach_bounds row i wide (omega (arith, within)))
 
         pub searching_more : {far' : List ℕ} {split' : ℕ} {near' : End} (count' : ℕ)
-            → length far' ≡ max_width + 1 → count' + split' ≡ count + split → split' % 128 ≡ split % 128 → Window (sum_at sums) w t split' near' far'
+            → length far' ≡ max_width + 1 → count' + split' ≡ count + split → split' % 128 ≡ split % 128 → Window (sum_at sums) w (i + 1) split' near' far'
             → Searching row w (set sums i p.sum) (set first i p.code) far' i q split' near' p.sum (count' + 1)
         searching_more {far'} {split'} {near'} count' long_far turns-are aligned window = record {
           whole = s.whole;
@@ -301,11 +297,10 @@ module _ {row sums first far : List ℕ} {w t : ℕ} {repeat : Repeat} {split : 
           long_first = simp length-set s.long_first;
           long_far = long_far;
           known = known_more row sums first i p.sum p.code (omega (arith, s.inside, s.high, s.long)) (omega (arith, s.inside, s.long_first))
-              known_next sum_is (sym note.first);
+              s.known sum_is (sym note.first);
           here_is = sum_is;
           longest = longest;
-          window = subst (λ (a : ℕ). Window (reach row) w a split' near' far') (sym next)
-              (window_agreed (sum_at sums) (reach row) w t split' near' far' sums_next window);
+          window = window_agreed (sum_at sums) (reach row) w (i + 1) split' near' far' sums_next window;
           counted = omega (arith, s.counted);
           aligned = omega (arith, s.aligned);
         }

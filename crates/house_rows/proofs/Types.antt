@@ -2,6 +2,7 @@
 use mathlib.Core.Path.{◌≡◌, refl, sym, ap, ◌∙◌}
 use mathlib.Core.List.{List, [], ◌∷◌}
 use mathlib.Core.Bool.{true, false}
+use Rattle.std.specs.Prelude.{Ok, Err}
 use Prim.Native.Nat.{ℕ, zero, suc, ◌*◌, ◌≤◌, ◌<◌}
 use native.Mathlib.Omega.{arith}
 use lib.ListN.{length, get_or, drop}
@@ -9,7 +10,7 @@ use lib.Seq.{ext_get_or}
 use Rattle.format.specs.Limits.{size_ok}
 use Rattle.answer.specs.declared.Refusal.TheVariants.{BadSize}
 use Rattle.house_rows.specs.Row.{house_bytes}
-use Rattle.house_rows.specs.declared.RowCost.TheVariants.{Fault, Cost}
+use Rattle.house_rows.specs.declared.RowCost.{RowCost}
 use Rattle.house_rows.specs.Search.{turns, search_row, Searched, types, Planned}
 
 -- the first byte of the house row from pixel i on
@@ -38,10 +39,10 @@ turns_few w h = omega arith
 
 -- the answer of one row
 
-pub search_refused : (row : List ℕ) → size_ok (length row) 1 ≡ false → Searched row (Fault BadSize)
+pub search_refused : (row : List ℕ) → size_ok (length row) 1 ≡ false → Searched row (Err BadSize)
 unfolding search_row
 search_refused row e = record { cost_is = rw e; few = omega arith }
 
-pub search_told : (row first : List ℕ) (size count : ℕ) → size_ok (length row) 1 ≡ true → Planned row first size count → Searched row (Cost size count)
+pub search_told : (row first : List ℕ) (cost : RowCost) → size_ok (length row) 1 ≡ true → Planned row first cost.bytes cost.turns → Searched row (Ok cost)
 unfolding search_row
-search_told row first size count e p = record { cost_is = rw (e, ← p.size_is, ← p.count_is); few = p.few }
+search_told row first cost e p = record { cost_is = rw (e, ← p.size_is, ← p.count_is) refl; few = p.few }

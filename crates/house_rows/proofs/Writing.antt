@@ -101,9 +101,6 @@ pub record Writing (row out₀ : List ℕ) (at : ℕ) (out : List ℕ) (here x n
   pub few : n ≤ x
   pub counted : n + length (house (drop x row)) ≡ length (house row)
 
-pub writing_first : (row out : List ℕ) (at : ℕ) → at + length (house_bytes row) ≤ length out → Writing row out at out at 0 0
-writing_first row out at h = record { stored = refl; long = refl; room = h; reached = refl; ahead = omega arith; few = omega arith; counted = omega arith }
-
 module _ {row out₀ out : List ℕ} {at here x n : ℕ} (w : Writing row out₀ at out here x n) where
   module _ (t : ℕ) (inside : x < length row) (e : t ≡ get_or (house_bytes (drop x row)) 0 0) where
     first : Split (drop x row) t

@@ -9,20 +9,13 @@ ghost use Rattle.house_rows.specs.Search.{types, Planned, Searched};
 ghost use Rattle.house_rows.specs.Window.{places, sum_at, end_at, end_of, LowestEnd, Lower, Window, Shortened, Lengthened, Chosen, carried};
 
 use answer::Refusal;
-use words::{magnitude_of, put_bytes, put_two, wide};
+use words::{magnitude_of, put_bytes, put_two};
 
 // The pixels of the widest row.
 const WIDTH: usize = format::MAX_WIDTH;
 
 // More than a row has places, so that a place and its sum make one number.
 const PLACES: usize = 2048;
-
-// A sum as it is noted, as a number to count with.
-fn wide_sum(x: u16) -> usize
-    ensures { (result ≡ x) × (result < 65536) }
-{
-    x as usize
-}
 
 // An end of a copy: a place of the row, and its sum, the place and the least bytes from there on.
 #[derive(Clone, Copy)]
@@ -45,11 +38,11 @@ fn end_at(sums: &[u16; WIDTH + 1], j: usize) -> End
 {
     End {
         place: j,
-        sum: wide_sum(sums[j]),
+        sum: usize::from(sums[j]),
     }
 }
 
-// An end as one number.
+// An end as one number. It asks for a small end, as no `From` can, and so its way back, `unpacked`, is a function too.
 fn packed(e: End) -> u32
     requires { (e.place < places) × (e.sum < 65536) }
     ensures { result ≡ e.sum * places + e.place }
@@ -75,13 +68,10 @@ fn sweep(far: &mut [u32; WIDTH + 1], sums: &[u16; WIDTH + 1], t: usize) -> usize
         × (length far.new ≡ max_width + 1)
         × ((j : ℕ) → t < j → j ≤ t + 128 → LowestEnd (sum_at sums.now) (t + 1) j (end_of (get_or far.new j 0))) }
 {
-    let end = t + 128;
-    let mut j = t;
     let mut low = end_at(sums, t + 1);
     let mut turns = 0;
     // A turn looks at no pixel; of what was noted, at the sum of one place, j.
-    while j < end {
-        j += 1;
+    for j in t + 1..t + 129 {
         low = lower(end_at(sums, j), low);
         far[j] = packed(low);
         turns += 1;
@@ -89,71 +79,52 @@ fn sweep(far: &mut [u32; WIDTH + 1], sums: &[u16; WIDTH + 1], t: usize) -> usize
     turns
 }
 
-// The window's split and lowest near end, and the turns that were taken so far.
+// The ends of a copy, a window of two parts: where it splits, the lowest end of the near part, and the turns that were taken so far.
 #[derive(Clone, Copy)]
-struct Slid {
+struct Ends {
     split: usize,
     near: End,
     turns: usize,
 }
 
 // The window one place further left, where the end `at` is.
-fn slide(
-    far: &mut [u32; WIDTH + 1],
-    sums: &[u16; WIDTH + 1],
-    w: usize,
-    at: End,
-    split: usize,
-    near: End,
-    turns: usize,
-) -> Slid
+fn slide(far: &mut [u32; WIDTH + 1], sums: &[u16; WIDTH + 1], w: usize, at: End, ends: Ends) -> Ends
     requires { Wide w
-        × (turns + split ≤ 2 * max_width)
+        × (ends.turns + ends.split ≤ 2 * max_width)
         × (length far.old ≡ max_width + 1)
         × (at.sum ≡ sum_at sums.now at.place)
-        × Window (sum_at sums.now) w (at.place + 1) split near far.old }
+        × Window (sum_at sums.now) w (at.place + 1) ends.split ends.near far.old }
     ensures { (length far.new ≡ max_width + 1)
-        × (result.turns + result.split ≡ turns + split)
-        × (result.split % 128 ≡ split % 128)
+        × (result.turns + result.split ≡ ends.turns + ends.split)
+        × (result.split % 128 ≡ ends.split % 128)
         × Window (sum_at sums.now) w at.place result.split result.near far.new }
 {
     let t = at.place;
+    let split = ends.split;
     if t + 128 == split {
         // From t, which is split - 128: told from the split, it costs the loop around no number of its own.
         let swept = sweep(far, sums, split - 128);
-        return Slid {
+        return Ends {
             split: t,
             near: at,
-            turns: turns + swept,
+            turns: ends.turns + swept,
         };
     }
-    let n = lower(near, at);
-    Slid {
-        split: split,
-        near: n,
-        turns: turns,
+    Ends {
+        near: lower(ends.near, at),
+        ..ends
     }
 }
 
 // The lowest end of the window.
-fn copy_end(
-    far: &[u32; WIDTH + 1],
-    sums: &[u16; WIDTH + 1],
-    w: usize,
-    t: usize,
-    split: usize,
-    near: End,
-) -> End
-    requires { Wide w × Window (sum_at sums.now) w t split near far.now }
+fn copy_end(far: &[u32; WIDTH + 1], sums: &[u16; WIDTH + 1], w: usize, t: usize, ends: Ends) -> End
+    requires { Wide w × Window (sum_at sums.now) w t ends.split ends.near far.now }
     ensures { LowestEnd (sum_at sums.now) t (min (t + 127) w) result }
 {
-    if split < w {
-        if split < t + 127 {
-            let end = unpacked(far[t + 127]);
-            return lower(end, near);
-        }
+    if ends.split < w && ends.split < t + 127 {
+        return lower(unpacked(far[t + 127]), ends.near);
     }
-    near
+    ends.near
 }
 
 // A repeat: how many pixels it writes, and the sum where it ends.
@@ -173,7 +144,7 @@ fn shorten(sums: &[u16; WIDTH + 1], i: usize, last: Repeat) -> Repeat
     }
     Repeat {
         run: 126,
-        sum: wide_sum(sums[i + 127]),
+        sum: usize::from(sums[i + 127]),
     }
 }
 
@@ -185,7 +156,7 @@ fn lengthen(here: u8, next: u8, next_sum: usize, last: Repeat) -> Repeat
     if here == next {
         return Repeat {
             run: last.run + 1,
-            sum: last.sum,
+            ..last
         };
     }
     Repeat {
@@ -221,83 +192,65 @@ fn choose(i: usize, repeat: Repeat, end: End) -> Choice
     }
 }
 
-// What the search gives back of a row: the size of its packets, the turns taken.
+// What the least packets of a row cost: their bytes, and the turns of the search for them.
 #[derive(Clone, Copy)]
-pub struct RowPlan {
-    pub size: usize,
+pub struct RowCost {
+    pub bytes: usize,
     pub turns: usize,
 }
 
 // The search, from the last pixel to the first, in under two turns a pixel. Notes at each pixel the first byte of the house row from there.
-pub fn plan_row(first: &mut [u8], row: &[u8]) -> RowPlan
+pub fn plan_row(first: &mut [u8], row: &[u8]) -> RowCost
     requires { (1 ≤ length row.now) × Wide (length row.now) × (length first.old ≡ length row.now) }
-    ensures { Planned row.now first.new result.size result.turns }
+    ensures { Planned row.now first.new result.bytes result.turns }
 {
     let w = row.len();
+    // Notes of two kinds, in memory of fixed size; what is stored below fits its narrower number, as is proved.
     let mut sums = [0u16; WIDTH + 1];
     let mut far = [0u32; WIDTH + 1];
-    let mut i = w - 1;
+    let last = w - 1;
     sums[w] = w as u16;
-    sums[i] = (w + 1) as u16;
-    first[i] = 1;
+    sums[last] = (w + 1) as u16;
+    first[last] = 1;
     let mut repeat = Repeat { run: 1, sum: w };
-    let mut split = w;
-    let mut near = End { place: w, sum: w };
+    let mut ends = Ends {
+        split: w,
+        near: End { place: w, sum: w },
+        turns: 0,
+    };
     let mut here = w + 1;
-    let mut turns = 0;
     // A turn looks at two pixels, i and i + 1; of what was noted, at the sum of the place i + 127 and at the far end of the place i + 128.
-    while 0 < i {
-        let t = i;
-        i -= 1;
+    for i in (0..last).rev() {
+        let t = i + 1;
         repeat = lengthen(row[i], row[t], here, shorten(&sums, i, repeat));
         let at = End {
             place: t,
             sum: here,
         };
-        let v = slide(&mut far, &sums, w, at, split, near, turns);
-        split = v.split;
-        near = v.near;
-        let end = copy_end(&far, &sums, w, t, split, near);
+        ends = slide(&mut far, &sums, w, at, ends);
+        let end = copy_end(&far, &sums, w, t, ends);
         let picked = choose(i, repeat, end);
         here = picked.sum;
         sums[i] = here as u16;
         first[i] = picked.code;
-        turns = v.turns + 1;
+        ends.turns += 1;
     }
-    RowPlan {
-        size: here,
-        turns: turns,
+    RowCost {
+        bytes: here,
+        turns: ends.turns,
     }
 }
 
-// Room for what is noted of any row.
-fn row_room() -> [u8; WIDTH]
-    ensures { max_width ≡ length result }
-{
-    [0; WIDTH]
-}
-
-// What the least packets of a row cost: their bytes, and the turns of the search for them; or the refusal of a row that no picture has.
-#[derive(Clone, Copy)]
-pub enum RowCost {
-    Fault(Refusal),
-    Cost { bytes: usize, turns: usize },
-}
-
-// Searches one row.
-pub fn search_row(row: &[u8]) -> RowCost
+// Searches one row; a row that no picture has is refused.
+pub fn search_row(row: &[u8]) -> Result<RowCost, Refusal>
     ensures { Searched row.now result }
 {
     let n = row.len();
     if !format::size_ok(n, 1) {
-        return RowCost::Fault(Refusal::BadSize);
+        return Err(Refusal::BadSize);
     }
-    let mut first = row_room();
-    let plan = plan_row(&mut first[0..n], row);
-    RowCost::Cost {
-        bytes: plan.size,
-        turns: plan.turns,
-    }
+    let mut first = [0; WIDTH];
+    Ok(plan_row(&mut first[..n], row))
 }
 
 // Writes the packet of type t for the pixels from column x on. Returns its size.
@@ -307,10 +260,10 @@ fn write_packet(out: &mut [u8], at: usize, row: &[u8], x: usize, t: u8) -> usize
         × (out.new ≡ put out.old at (t ∷ take (carried t) (drop x row.now))) }
 {
     if t < 128 {
-        put_two(out, at, wide(t), wide(row[x]));
+        put_two(out, at, usize::from(t), usize::from(row[x]));
         return 2;
     }
-    let n = 256 - wide(t);
+    let n = 256 - usize::from(t);
     let end = x + n;
     out[at] = t;
     put_bytes(out, at + 1, &row[x..end]);
@@ -336,14 +289,15 @@ pub fn write_row(out: &mut [u8], at: usize, row: &[u8], first: &[u8]) -> RowWrit
     let mut here = at;
     let mut x = 0;
     let mut packets = 0;
+    // A cursor that steps by packets.
     while x < row.len() {
         let t = first[x];
-        here = here + write_packet(out, here, row, x, t);
-        x = x + magnitude_of(t);
+        here += write_packet(out, here, row, x, t);
+        x += magnitude_of(t);
         packets += 1;
     }
     RowWritten {
-        packets: packets,
+        packets,
         size: here - at,
     }
 }

@@ -8,6 +8,7 @@ use lib.Dec.{eqb}
 use lib.ListN.{length, take, drop, get_or, length-append, take-append-drop, drop_of_length-le}
 use lib.Seq.{length-take-le, drop-cons}
 use borrow.Author.Tests.{lt-ltb, eqb-true, eqb-false, not-false}
+use Rattle.std.specs.Prelude.{Some, None, Ok}
 use Rattle.words.specs.Words.{le16, Bytes}
 use Rattle.words.specs.Writes.{put}
 use Rattle.words.proofs.Laws.{false_not_true, bytes_get_d}
@@ -16,10 +17,8 @@ use Rattle.words.proofs.Tests.{by_test}
 use Rattle.format.specs.Limits.{Wide}
 use Rattle.walk.proofs.Gives.{Gives, gives_then, gives_followed, gives_as, gives_to}
 use Rattle.read_packets.specs.Packets as walk
-use Rattle.read_ss2.specs.Ss2.{by_high, word_of, line_at, line_walk}
+use Rattle.read_ss2.specs.Ss2.{by_high, word_of, line_at, line_walk, LastPixel}
 use Rattle.read_ss2.specs.declared.Word.TheVariants.{Count, Last, Skip}
-use Rattle.read_ss2.specs.declared.LastPixel.{LastPixel}
-use Rattle.read_ss2.specs.declared.LastPixel.TheVariants.{Kept, Set}
 use Rattle.read_ss2.specs.declared.Line.TheVariants.{Row}
 use Rattle.read_ss2.proofs.Laws.{last_there, line_there, lines_from, lines_row}
 use Rattle.house_cells.specs.Cells.{Cell}
@@ -51,7 +50,7 @@ word_down g l h =
 
 module _ (w h : ℕ) (b : List ℕ) where
   -- a packet count
-  line_kept : (at row n : ℕ) (more : List ℕ) → drop at b ≡ le16 n more → n < 16384 → row < h → line_at h b at row ≡ Row Kept n (at + 2)
+  line_kept : (at row n : ℕ) (more : List ℕ) → drop at b ≡ le16 n more → n < 16384 → row < h → line_at h b at row ≡ Ok (Row None n (at + 2))
   line_kept at row n more e few r =
       line_there h b at row (Count n) (there_long b (le16 n more) at 2 e (omega arith) (omega arith))
       (word_count n few ∙ ap word_of (sym (there_le16 b more at n e)))
@@ -59,7 +58,7 @@ module _ (w h : ℕ) (b : List ℕ) where
 
   -- a last-pixel word and a packet count
   line_set : (at row v n : ℕ) (more : List ℕ) → drop at b ≡ v ∷ 128 ∷ le16 n more → v < 256 → n < 16384 → row < h → line_at h b at row
-      ≡ Row (Set v) n (at + 2 + 2)
+      ≡ Ok (Row (Some v) n (at + 2 + 2))
   line_set at row v n more e small few r =
       let e' : drop (at + 2) b ≡ le16 n more = there_drop b (v ∷ 128 ∷ []) (le16 n more) at 2 e refl in
       line_there h b at row (Last v) (there_long b (v ∷ 128 ∷ le16 n more) at 2 e (omega arith) (omega arith))
@@ -69,20 +68,20 @@ module _ (w h : ℕ) (b : List ℕ) where
       (word_count n few ∙ ap word_of (sym (there_le16 b more (at + 2) n e'))))
 
   -- a line, and then the lines after it
-  row_gives : (last : LastPixel) (row at c from m n end : ℕ) (d d' e : List ℕ) → line_at h b at row ≡ Row last c from → row < h
+  row_gives : (last : LastPixel) (row at c from m n end : ℕ) (d d' e : List ℕ) → line_at h b at row ≡ Ok (Row last c from) → row < h
       → Gives (line_walk w b row last c from) m d d' → Gives (lines_from w h b n (row + 1) m) end d' e → Gives (lines_from w h b (suc n) row at) end d e
   row_gives last row at c from m n end d d' e l r here below =
       let less : suc n - 1 ≡ n = omega arith in
       gives_as (lines_row w h b (suc n) row at (omega arith) last c from l r (line_walk w b row last c from).verdict refl)
       (gives_followed (λ end'. lines_from w h b (suc n - 1) (row + 1) end') here (gives_as (ap (λ (j : ℕ). lines_from w h b j (row + 1) m) less) below))
 
-  walk_kept : (row c from : ℕ) → line_walk w b row Kept c from ≡ walk.packets 2 w b c row from 0
+  walk_kept : (row c from : ℕ) → line_walk w b row None c from ≡ walk.packets 2 w b c row from 0
   unfolding line_walk
   walk_kept row c from = refl
 
   -- the last pixel set
   set_gives : (row v o c from end : ℕ) (pre s post e : List ℕ) → length pre ≡ row * w → length s ≡ w - 1
-      → Gives (walk.packets 2 w b c row from 0) end (pre ++ (s ++ (v ∷ post))) e → Gives (line_walk w b row (Set v) c from) end (pre ++ (s ++ (o ∷ post))) e
+      → Gives (walk.packets 2 w b c row from 0) end (pre ++ (s ++ (v ∷ post))) e → Gives (line_walk w b row (Some v) c from) end (pre ++ (s ++ (o ∷ post))) e
   unfolding line_walk
   set_gives row v o c from end pre s post e lp ls g =
       gives_then (row * w + (w - 1)) (v ∷ []) (pre ++ (s ++ (v ∷ post)))
@@ -172,7 +171,7 @@ line_gives w h b r some wide lo ln small row at n pre post more end e rh there l
         let to : at + length (line w r) ≡ m = omega (arith, ap length is) in
         let tail = drop half r.old ++ post in
         gives_to refl (ap (λ (l : List ℕ). pre ++ l) (sym (parts r.old))) refl
-        (row_gives w h b Kept row at (length ps) (at + 2) m n end (pre ++ (s ++ tail)) (pre ++ (t ++ tail)) e
+        (row_gives w h b None row at (length ps) (at + 2) m n end (pre ++ (s ++ tail)) (pre ++ (t ++ tail)) e
         (line_kept w h b at row (length ps) (bytes ps ++ more) there' few rh) rh
         (gives_as (walk_kept w h b row (length ps) (at + 2))
         (packets_give 2 w b turns row (at + 2) 0 more pre tail m (there_drop b (le16 (length ps) []) (bytes ps ++ more) at 2 there' refl) refl
@@ -191,7 +190,7 @@ line_gives w h b r some wide lo ln small row at n pre post more end e rh there l
         let to : at + length (line w r) ≡ m = omega (arith, ap length is) in
         let four : at + 4 ≡ at + 2 + 2 = omega arith in
         gives_to refl (ap (λ (l : List ℕ). pre ++ l) (sym (parts r.old ∙ ap (λ (x : List ℕ). s ++ (x ++ post)) (tail_odd w r.old lo odd)))) refl
-        (row_gives w h b (Set v) row at (length ps) (at + 2 + 2) m n end (pre ++ (s ++ (o ∷ post))) (pre ++ (t ++ (v ∷ post))) e
+        (row_gives w h b (Some v) row at (length ps) (at + 2 + 2) m n end (pre ++ (s ++ (o ∷ post))) (pre ++ (t ++ (v ∷ post))) e
         (line_set w h b at row v (length ps) (bytes ps ++ more) there' (bytes_get_d r.new (w - 1) small) few rh) rh
         (set_gives w h b row v o (length ps) (at + 2 + 2) m pre s post (pre ++ (t ++ (v ∷ post))) lp (omega (arith, odd, ls))
         (packets_give 2 w b turns row (at + 2 + 2) 0 more pre (v ∷ post) m

@@ -7,6 +7,7 @@ use native.Mathlib.Omega.{arith}
 use lib.ListN.{length, drop, length-append}
 use lib.Seq.{take_all}
 use borrow.Author.Tests.{lt-ltb}
+use Rattle.std.specs.Prelude.{Ok}
 use Rattle.words.specs.Words.{le16, Bytes}
 use Rattle.words.proofs.Laws.{bytes_append}
 use Rattle.words.proofs.There.{there_drop, there_long, there_le16}
@@ -57,7 +58,7 @@ module _ (w h : ℕ) (b : List ℕ) where
   skip_gives zero n row at more d end e few fits there below =
       gives_as (lines_at (suc n) (suc n) row (row + 0) at (at + 0) refl (omega arith) (omega arith)) below
   skip_gives (suc g) n row at more d end e few fits there below =
-      let down : line_at h b at row ≡ Down (suc g) =
+      let down : line_at h b at row ≡ Ok (Down (suc g)) =
       line_there h b at row (Skip (suc g)) (there_long b (le16 (65536 - suc g) more) at 2 there (omega arith) (omega arith))
       (word_down (suc g) (omega arith) few ∙ ap word_of (sym (there_le16 b more at (65536 - suc g) there)))
       ∙ simp (lt-ltb (row + suc g) h fits) in

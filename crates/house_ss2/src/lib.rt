@@ -3,20 +3,22 @@
 #![tactic(auto)]
 
 ghost use Rattle.std.specs.Prelude.{◌≡◌, ◌+◌, ◌*◌, ◌≤◌, length};
+ghost use Rattle.std.proofs.Common.{arith};
 ghost use mathlib.Core.List.{flat_map};
 ghost use Rattle.words.specs.Writes.{put};
 ghost use Rattle.format.specs.Limits.{Wide, High};
-ghost use Rattle.house_cells.specs.Cells.{cells_at};
-ghost use Rattle.house_cells.specs.Rows.{row, row_at, stretch_at};
+ghost use Rattle.house_cells.specs.Rows.{row, stretch_at};
 ghost use Rattle.house_ss2.specs.Line.{counted, last_changes, line, line_most};
-ghost use Rattle.house_ss2.specs.Delta.{lines, skip_word, stretch_lines, changed_rows, line_count, delta_body, delta_most};
+ghost use Rattle.house_ss2.specs.Delta.{skip_word, stretch_lines, changed_rows, line_count, delta_body, delta_most};
+
+use house_packets::{Form, Line};
 
 // Kind 7 counts pairs; two equal ones are a repeat, and the longest skip is 254.
-const UNIT: usize = 2;
-
-const LEAST: usize = 2;
-
-const LONGEST: usize = 254;
+const FORM: Form = Form {
+    unit: 2,
+    least: 2,
+    longest: 254,
+};
 
 // Whether the row has a last-pixel word.
 fn last_changes(a: &[u8], b: &[u8], width: usize) -> bool
@@ -29,18 +31,6 @@ fn last_changes(a: &[u8], b: &[u8], width: usize) -> bool
     a[width - 1] != b[width - 1]
 }
 
-// The bytes of the line of a row.
-fn line_size(a: &[u8], b: &[u8], width: usize) -> usize
-    requires { (1 ≤ width) × Wide width × (length a.now ≡ width) × (length b.now ≡ width) }
-    ensures { (result ≡ length (line width (row a.now b.now))) × (result ≤ line_most) }
-{
-    let size = house_packets::row_size(a, b, UNIT, LEAST, LONGEST, width / 2);
-    if last_changes(a, b, width) {
-        return 4 + size;
-    }
-    2 + size
-}
-
 // Stores the packet count and the packets of a row; answers where they end.
 fn put_counted(out: &mut [u8], at: usize, a: &[u8], b: &[u8], width: usize) -> usize
     requires { Wide width × (length a.now ≡ width) × (length b.now ≡ width)
@@ -48,50 +38,36 @@ fn put_counted(out: &mut [u8], at: usize, a: &[u8], b: &[u8], width: usize) -> u
     ensures { (result ≡ at + length (counted width (row a.now b.now)))
         × (out.new ≡ put out.old at (counted width (row a.now b.now))) }
 {
-    let p = house_packets::put_row(out, at + 2, a, b, UNIT, LEAST, LONGEST, width / 2);
+    let p = house_packets::put_row(out, at + 2, a, b, FORM, width / 2);
     words::put_u16(out, at, p.count);
     p.end
 }
 
-// Stores the line of a row; answers where it ends.
-fn put_line(out: &mut [u8], at: usize, a: &[u8], b: &[u8], width: usize) -> usize
-    requires { (1 ≤ width) × Wide width × (length a.now ≡ width) × (length b.now ≡ width)
-        × (at + length (line width (row a.now b.now)) ≤ length out.old) }
-    ensures { (result ≡ at + length (line width (row a.now b.now)))
-        × (out.new ≡ put out.old at (line width (row a.now b.now))) }
-{
-    if last_changes(a, b, width) {
-        words::put_two(out, at, words::wide(b[width - 1]), 128);
-        return put_counted(out, at + 2, a, b, width);
-    }
-    put_counted(out, at, a, b, width)
-}
+// Kind 7, by its line of a row.
+struct Pairs;
 
-// The bytes of the line of row r.
-fn row_size(previous: &[u8], next: &[u8], width: usize, r: usize) -> usize
-    requires { (1 ≤ width) × Wide width × (r * width + width ≤ length previous.now) × (r * width + width ≤ length next.now) }
-    ensures { (result ≡ length (line width (row_at width r previous.now next.now))) × (result ≤ line_most) }
-{
-    let a = r * width;
-    let e = a + width;
-    line_size(&previous[a..e], &next[a..e], width)
-}
+impl Line for Pairs {
+    ghost line = { line };
 
-// The bytes of the lines of n rows from row first on.
-fn lines_size(previous: &[u8], next: &[u8], width: usize, first: usize, n: usize) -> usize
-    requires { (1 ≤ width) × Wide width × High n
-        × ((first + n) * width ≤ length previous.now) × ((first + n) * width ≤ length next.now) }
-    ensures { (result ≡ length (lines width (cells_at width first n previous.now next.now))) × (result ≤ line_most * n) }
-{
-    let mut r = first;
-    let mut left = n;
-    let mut size = 0;
-    while 0 < left {
-        size += row_size(previous, next, width, r);
-        r += 1;
-        left -= 1;
+    ghost line_most = { line_most };
+
+    fn line_size(a: &[u8], b: &[u8], width: usize) -> usize {
+        let size = house_packets::row_size(a, b, FORM, width / 2);
+        if last_changes(a, b, width) {
+            return 4 + size;
+        }
+        2 + size
     }
-    size
+
+    fn put_line(out: &mut [u8], at: usize, a: &[u8], b: &[u8], width: usize) -> usize {
+        if last_changes(a, b, width) {
+            words::put_two(out, at, usize::from(b[width - 1]), 128);
+            return put_counted(out, at + 2, a, b, width);
+        }
+        put_counted(out, at, a, b, width)
+    }
+
+    ghost line_fits = { Prim.omega arith };
 }
 
 // The bytes of the skip word before a gap of g rows.
@@ -101,7 +77,7 @@ fn skip_size(g: usize) -> usize
     if g == 0 { 0 } else { 2 }
 }
 
-// The bytes of the delta's body.
+// The bytes of the delta's body. Kind 12's has no skip words, and a first row and a count before its lines: two bodies, not one.
 pub fn delta_size(previous: &[u8], next: &[u8], width: usize, height: usize) -> usize
     requires { (1 ≤ width) × Wide width × High height
         × (length previous.now ≡ width * height) × (length next.now ≡ width * height) }
@@ -109,53 +85,14 @@ pub fn delta_size(previous: &[u8], next: &[u8], width: usize, height: usize) -> 
 {
     let mut i = 0;
     let mut size = 0;
-    loop {
-        let s = house_cells::next_stretch(previous, next, width, height, i);
-        if s.changed == 0 {
-            return 2 + size;
-        }
-        size += skip_size(s.gap) + lines_size(previous, next, width, i + s.gap, s.changed);
-        i = i + s.gap + s.changed;
+    // A cursor that steps by stretches.
+    while let Some(s) = house_cells::next_stretch(previous, next, width, height, i) {
+        let first = i + s.gap;
+        size += skip_size(s.gap)
+            + house_packets::lines_size::<Pairs>(previous, next, width, first, s.changed);
+        i += s.gap + s.changed;
     }
-}
-
-// Stores the line of row r; answers where it ends.
-fn put_row(out: &mut [u8], at: usize, previous: &[u8], next: &[u8], width: usize, r: usize) -> usize
-    requires { (1 ≤ width) × Wide width × (r * width + width ≤ length previous.now) × (r * width + width ≤ length next.now)
-        × (at + length (line width (row_at width r previous.now next.now)) ≤ length out.old) }
-    ensures { (result ≡ at + length (line width (row_at width r previous.now next.now)))
-        × (out.new ≡ put out.old at (line width (row_at width r previous.now next.now))) }
-{
-    let a = r * width;
-    let e = a + width;
-    put_line(out, at, &previous[a..e], &next[a..e], width)
-}
-
-// Stores the lines of n rows from row first on; answers where they end.
-fn put_lines(
-    out: &mut [u8],
-    at: usize,
-    previous: &[u8],
-    next: &[u8],
-    width: usize,
-    first: usize,
-    n: usize,
-) -> usize
-    requires { (1 ≤ width) × Wide width
-        × ((first + n) * width ≤ length previous.now) × ((first + n) * width ≤ length next.now)
-        × (at + length (lines width (cells_at width first n previous.now next.now)) ≤ length out.old) }
-    ensures { (result ≡ at + length (lines width (cells_at width first n previous.now next.now)))
-        × (out.new ≡ put out.old at (lines width (cells_at width first n previous.now next.now))) }
-{
-    let mut r = first;
-    let mut left = n;
-    let mut here = at;
-    while 0 < left {
-        here = put_row(out, here, previous, next, width, r);
-        r += 1;
-        left -= 1;
-    }
-    here
+    2 + size
 }
 
 // Stores the skip word before a gap of g rows; answers where it ends.
@@ -188,7 +125,7 @@ fn put_stretch(
         × (out.new ≡ put out.old at (stretch_lines width (stretch_at width i g n previous.now next.now))) }
 {
     let here = put_skip(out, at, g);
-    put_lines(out, here, previous, next, width, i + g, n)
+    house_packets::put_lines::<Pairs>(out, here, previous, next, width, i + g, n)
 }
 
 // Stores the delta's lines and skip words; answers how many lines they are.
@@ -209,15 +146,13 @@ fn put_rows(
     let mut i = 0;
     let mut here = at;
     let mut count = 0;
-    loop {
-        let s = house_cells::next_stretch(previous, next, width, height, i);
-        if s.changed == 0 {
-            return count;
-        }
+    // A cursor that steps by stretches.
+    while let Some(s) = house_cells::next_stretch(previous, next, width, height, i) {
         here = put_stretch(out, here, previous, next, width, i, s.gap, s.changed);
         count += s.changed;
-        i = i + s.gap + s.changed;
+        i += s.gap + s.changed;
     }
+    count
 }
 
 // Writes the delta's body.

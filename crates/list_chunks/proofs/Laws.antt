@@ -4,28 +4,24 @@ use mathlib.Core.List.{List, [], ◌∷◌, ◌++◌}
 use mathlib.Core.Bool.{cond}
 use Prim.Native.Nat.{ℕ, zero, suc, ◌+◌, ◌-◌, ◌≤◌, ◌<◌}
 use native.Mathlib.Nat.{not-suc-le-zero}
-use native.Mathlib.Numerals.{add-one, sub-one}
+use native.Mathlib.Numerals.{add-one}
 use native.Mathlib.Omega.{arith}
 use borrow.Author.Tests.{lt-leb, le-leb}
 use lib.Dec.{leb, eqb}
 use lib.ListN.{length, take, drop}
+use Rattle.std.specs.Prelude.{Ok}
 use Rattle.words.proofs.Laws.{put_front}
 use Rattle.words.proofs.Tests.{cond_holds}
 use Rattle.answer.specs.Answer.{number, done}
 use Rattle.format.specs.Format.{FLI_PSTAMP}
 use Rattle.answer.specs.declared.Refusal.TheVariants.{NoRoom}
-use Rattle.chunks.specs.Headers.{header_at}
-use Rattle.chunks.specs.declared.Header.{Header}
+use Rattle.chunks.specs.Headers.{header_at, Header}
 use Rattle.state.specs.Outcome.{lent_bytes, leaves, refuse}
 use Rattle.state.proofs.Laws.{fitted_none, fitted_whole}
-use Rattle.reel_header.specs.Head.{head_of}
-use Rattle.chunks.specs.Spans.{HEADER_BYTES, extent}
-use Rattle.chunks.specs.declared.Extent.{Extent}
-use Rattle.format.specs.declared.Size.{Size}
-use Rattle.delay.specs.declared.Milliseconds.{Milliseconds}
-use Rattle.reel_header.specs.declared.Takes.TheVariants.{FlcOnly}
+use Rattle.reel_header.specs.Head.{head_of, Headed}
 use Rattle.reel_header.specs.declared.Head.{Head}
-use Rattle.reel_header.specs.declared.Head.TheVariants as head
+use Rattle.chunks.specs.Spans.{HEADER_BYTES, extent, Extent}
+use Rattle.reel_header.specs.declared.Takes.TheVariants.{FlcOnly}
 use Rattle.list_text.specs.Text.{refused_line}
 use Rattle.list_chunks.specs.Listing.{head_bytes, count_at, after_child, children_by, inside, LIST_DEPTH, container_of, children_of, chunk_lines, walk_lines, head_lines, LIST_INPUT, listing, list}
 
@@ -37,15 +33,12 @@ module _ (inner : ℕ → ℕ → ℕ → List ℕ) (b : List ℕ) (depth parent
   children_none zero at i = refl
   children_none (suc n) at i = absurd (not-suc-le-zero i)
 
-  -- m: the length of the part that the header was read in
-  pub children_step : (n at : ℕ) → 0 < n → (m : ℕ) → m ≡ to → (x : Header) → header_at (take m b) at ≡ x
-      → children_by inner b depth parent to n at ≡ after_child inner depth parent at x (λ end. children_by inner b depth parent to (n - 1) end)
+  pub children_step : (n k at : ℕ) → n ≡ k + 1 → (x : Header) → header_at (take to b) at ≡ x
+      → children_by inner b depth parent to n at ≡ after_child inner depth parent at x (λ end. children_by inner b depth parent to k end)
   unfolding children_by
-  children_step zero at i m k x e = absurd (not-suc-le-zero i)
-  children_step (suc n) at i m k x e =
-      ap (λ (l : ℕ). after_child inner depth parent at (header_at (take to b) at) (λ end. children_by inner b depth parent to l end)) (sym (sub-one (suc n)))
-      ∙ ap (λ (y : Header). after_child inner depth parent at y (λ end. children_by inner b depth parent to (suc n - 1) end))
-      (ap (λ (l : ℕ). header_at (take l b) at) (sym k) ∙ e)
+  children_step n k at i x e =
+      ap (λ (l : ℕ). children_by inner b depth parent to l at) (i ∙ add-one k)
+      ∙ ap (λ (y : Header). after_child inner depth parent at y (λ end. children_by inner b depth parent to k end)) e
 
 -- head_bytes
 
@@ -87,18 +80,17 @@ module _ (b : List ℕ) where
   listing_long h = simp (lt-leb (length b) LIST_INPUT h)
 
   module _ (few : length b ≤ LIST_INPUT) where
-    pub listing_head : (x : Head) → head_of FlcOnly b ≡ x → listing b ≡ head_lines b x
+    pub listing_head : (x : Headed) → head_of FlcOnly b ≡ x → listing b ≡ head_lines b x
     unfolding listing
-    listing_head x e = ap (λ (y : Head). cond (leb (length b) LIST_INPUT) (head_lines b y) (refused_line (number NoRoom) 0)) e
+    listing_head x e = ap (λ (y : Headed). cond (leb (length b) LIST_INPUT) (head_lines b y) (refused_line (number NoRoom) 0)) e
         ∙ simp (le-leb (length b) LIST_INPUT few)
 
-    -- m: the length of the part that was walked
-    pub listing_walk : (z : Size) (frames size : ℕ) (speed : Milliseconds) → head_of FlcOnly b ≡ head.Reel z frames size speed → (m : ℕ) → m ≡ size
-        → (x : Extent) → extent (take m b) (frames + 1) HEADER_BYTES ≡ x → listing b ≡ walk_lines (take m b) z.width z.height frames x
-    listing_walk z frames size speed y m k x e =
+    pub listing_walk : (h : Head) → head_of FlcOnly b ≡ Ok h → (x : Extent) → extent (take h.size b) (h.frames + 1) HEADER_BYTES ≡ x
+        → listing b ≡ walk_lines (take h.size b) h.picture.width h.picture.height h.frames x
+    listing_walk h y x e =
         listing_head _ y
-        ∙ ap (λ (n : ℕ). walk_lines (take n b) z.width z.height frames (extent (take n b) (suc frames) HEADER_BYTES)) (sym k)
-        ∙ ap (walk_lines (take m b) z.width z.height frames) (ap (λ (n : ℕ). extent (take m b) n HEADER_BYTES) (sym (add-one frames)) ∙ e)
+        ∙ ap (walk_lines (take h.size b) h.picture.width h.picture.height h.frames)
+        (ap (λ (n : ℕ). extent (take h.size b) n HEADER_BYTES) (sym (add-one h.frames)) ∙ e)
 
 -- list; n: the listing's length
 
@@ -107,7 +99,7 @@ module _ (b out : List ℕ) (n : ℕ) (l : n ≡ length (listing b)) where
   unfolding list
   list_none h = fitted_none (listing b) out n (sym l) h
 
-  pub list_whole : n ≤ length out → (m : ℕ) → m ≡ n → (e : List ℕ) → e ≡ listing b → leaves (done (n ∷ [])) (lent_bytes (e ++ drop m out)) ≡ list b out
+  pub list_whole : n ≤ length out → (e : List ℕ) → e ≡ listing b → leaves (done (n ∷ [])) (lent_bytes (e ++ drop n out)) ≡ list b out
   unfolding list
-  list_whole h m k e p =
-      fitted_whole (listing b) out n (sym l) (e ++ drop m out) h (ap₂ (λ (x : List ℕ) (y : ℕ). x ++ drop y out) p (k ∙ l) ∙ sym (put_front out (listing b)))
+  list_whole h e p =
+      fitted_whole (listing b) out n (sym l) (e ++ drop n out) h (ap₂ (λ (x : List ℕ) (y : ℕ). x ++ drop y out) p l ∙ sym (put_front out (listing b)))

@@ -9,6 +9,7 @@ use borrow.Author.Tests.{leb-true, leb-false}
 use lib.Dec.{leb}
 use lib.ListN.{length, get_or, take, length-append}
 use lib.Seq.{length-take-le, get_or-take}
+use Rattle.std.specs.Prelude.{Ok, Err}
 use Rattle.words.specs.Words.{u16_at, Bytes}
 use Rattle.words.proofs.Laws.{bytes_get_d, bytes_take}
 use Rattle.words.proofs.Tests.{by_test, cond_holds}
@@ -17,19 +18,13 @@ use Rattle.answer.proofs.Laws.{number_small}
 use Rattle.format.proofs.Laws.{size_in_lem}
 use Rattle.answer.specs.declared.Refusal.{Refusal}
 use Rattle.answer.specs.declared.Refusal.TheVariants.{NoRoom}
-use Rattle.chunks.specs.Headers.{header_at}
-use Rattle.chunks.specs.declared.Header.{Header}
-use Rattle.chunks.specs.declared.Header.TheVariants.{Fault, Chunk}
+use Rattle.chunks.specs.Headers.{header_at, chunk_to, Header}
 use Rattle.chunks.proofs.Headers.{header_in_lem}
-use Rattle.reel_header.specs.Head.{head_of}
-use Rattle.format.specs.declared.Size.{Size}
+use Rattle.reel_header.specs.Head.{head_of, Headed}
 use Rattle.reel_header.specs.declared.Takes.TheVariants.{FlcOnly}
+use Rattle.chunks.specs.Spans.{HEADER_BYTES, extent, Extent}
 use Rattle.reel_header.specs.declared.Head.{Head}
-use Rattle.reel_header.specs.declared.Head.TheVariants as head
-use Rattle.chunks.specs.Spans.{HEADER_BYTES, extent}
-use Rattle.chunks.specs.declared.Extent.{Extent}
-use Rattle.chunks.specs.declared.Extent.TheVariants as extent-is
-use Rattle.reel_header.proofs.Laws.{ReelIn, HeadIn, head_in}
+use Rattle.reel_header.proofs.Laws.{HeadIn, head_in}
 use Rattle.chunks.proofs.Spans.{extent_in, extent_refused}
 use Rattle.list_text.specs.Text.{head_line, head_most, chunk_line, line_most, ok_line, refused_line, refused_most}
 use Rattle.list_text.proofs.Laws.{head_short, chunk_short, refused_short}
@@ -44,7 +39,8 @@ pub record Child (depth to at kind end : ℕ) : Type 0 where
   pub line : length (chunk_line depth at kind (end - at)) ≤ line_most
 
 module _ (b : List ℕ) (bytes : (i : ℕ) → get_or b i 0 < 256) (few : length b ≤ LIST_INPUT) where
-  pub child_in : (depth to at kind end : ℕ) → depth ≤ LIST_DEPTH → to ≤ length b → header_at (take to b) at ≡ Chunk kind end → Child depth to at kind end
+  pub child_in : (depth to at kind end : ℕ) → depth ≤ LIST_DEPTH → to ≤ length b → header_at (take to b) at ≡ Ok (chunk_to kind end)
+      → Child depth to at kind end
   unfolding u16_at
   child_in depth to at kind end d w there =
       let i = header_in_lem (take to b) at _ there in
@@ -77,13 +73,13 @@ module _ (b : List ℕ) (bytes : (i : ℕ) → get_or b i 0 < 256) (few : length
 
       by : (x : Header) → header_at (take to b) at ≡ x → ((end : ℕ) → end ≤ to → 6 * length (rest end) ≤ line_most * (to - end))
           → 6 * length (after_child inner depth parent at x rest) ≤ line_most * (to - at)
-      by (Fault e) p again = omega arith
-      by (Chunk kind end) p again =
-          let i = child_in depth to at kind end d w p in
-          let line = chunk_line depth at kind (end - at) in
-          let opened = cond (opens kind parent) (inner at end kind) [] in
-          let o = opened_by inner s (opens kind parent) depth to at kind end w i in
-          omega (arith, again end i.within, length-append line (opened ++ rest end), length-append opened (rest end))
+      by (Err e) p again = omega arith
+      by (Ok c) p again =
+          let i = child_in depth to at c.kind c.end d w p in
+          let line = chunk_line depth at c.kind (c.end - at) in
+          let opened = cond (opens c.kind parent) (inner at c.end c.kind) [] in
+          let o = opened_by inner s (opens c.kind parent) depth to at c.kind c.end w i in
+          omega (arith, again c.end i.within, length-append line (opened ++ rest c.end), length-append opened (rest c.end))
 
   inside_by : (levels depth : ℕ) → depth + levels ≤ LIST_DEPTH → Short (inside levels b depth)
   unfolding inside Short
@@ -111,12 +107,10 @@ module _ (b : List ℕ) (bytes : (i : ℕ) → get_or b i 0 < 256) (few : length
 
 -- a whole reel
 
--- m: the length of the part that is the reel
-pub listed_in : (b : List ℕ) (z : Size) (frames size m : ℕ) → length b ≤ LIST_INPUT → ReelIn b z frames size → m ≡ size
-    → Listed (take m b) z.width z.height frames
-listed_in b z frames size m few i k =
-    let n = length-take-le m b (omega (arith, i.most)) in
-    record { long = omega (arith, i.least); short = omega (arith, i.most); sized = size_in_lem z i.sized; few = i.few_frames }
+pub listed_in : (b : List ℕ) → length b ≤ LIST_INPUT → (h : Head) → HeadIn b (Ok h) → Listed (take h.size b) h.picture.width h.picture.height h.frames
+listed_in b few h i =
+    let n = length-take-le h.size b (omega (arith, i.most)) in
+    record { long = omega (arith, i.least); short = omega (arith, i.most); sized = size_in_lem h.picture i.sized; few = i.few_frames }
 
 pub listed_head : (b : List ℕ) (w h frames : ℕ) → Listed b w h frames → length (head_line w h frames) ≤ head_most
 listed_head b w h frames l = head_short w h frames l.sized.wide l.sized.high l.few
@@ -135,7 +129,7 @@ refusal_short e place h = refused_short (number e) place (number_small e) (omega
 
 walked_short : (b : List ℕ) → Bytes b → (w h frames : ℕ) → Listed b w h frames → (x : Extent) → extent b (suc frames) HEADER_BYTES ≡ x
     → length (walk_lines b w h frames x) ≤ list_most
-walked_short b bytes w h frames l (extent-is.End end) q =
+walked_short b bytes w h frames l (Ok end) q =
     let j = extent_in b (suc frames) HEADER_BYTES l.long end q in
     let e = chunk_lines_are b end (length b) refl in
     omega (
@@ -145,14 +139,14 @@ walked_short b bytes w h frames l (extent-is.End end) q =
       length-append (head_line w h frames) (chunk_lines b end ++ ok_line),
       length-append (chunk_lines b end) ok_line,
     )
-walked_short b bytes w h frames l (extent-is.Fault e place) q =
-    omega (arith, refusal_short e place (omega (arith, l.short, extent_refused b (suc frames) HEADER_BYTES l.long e place q)))
+walked_short b bytes w h frames l (Err r) q =
+    omega (arith, refusal_short r.0 r.1 (omega (arith, l.short, extent_refused b (suc frames) HEADER_BYTES l.long r q)))
 
-headed_short : (b : List ℕ) → Bytes b → length b ≤ LIST_INPUT → (x : Head) → HeadIn b x → length (head_lines b x) ≤ list_most
-headed_short b bytes few (head.Fault e) i = omega (arith, refusal_short e 0 (omega arith))
-headed_short b bytes few (head.Reel z frames size speed) i =
-    let l = listed_in b z frames size size few i refl in
-    walked_short (take size b) (bytes_take size b bytes) z.width z.height frames l _ refl
+headed_short : (b : List ℕ) → Bytes b → length b ≤ LIST_INPUT → (x : Headed) → HeadIn b x → length (head_lines b x) ≤ list_most
+headed_short b bytes few (Err e) i = omega (arith, refusal_short e 0 (omega arith))
+headed_short b bytes few (Ok h) i =
+    let l = listed_in b few h i in
+    walked_short (take h.size b) (bytes_take h.size b bytes) h.picture.width h.picture.height h.frames l _ refl
 
 pub listing_short : (b : List ℕ) → Bytes b → length (listing b) ≤ list_most
 listing_short b bytes =

@@ -1,20 +1,14 @@
 -- The listing of a reel (document 01, "Reels and the trailer", third paragraph): its text.
-use Rattle.std.specs.Prelude.{ℕ, zero, suc, ◌+◌, ◌-◌, List, [], ◌++◌, Bool, not, true, cond, leb, eqb, length, take}
+use Rattle.std.specs.Prelude.{ℕ, zero, suc, ◌+◌, ◌-◌, List, [], ◌++◌, Bool, not, true, cond, leb, eqb, length, take, Ok, Err}
 use Rattle.words.specs.Words.{require◌else◌then◌, u16_at}
 use Rattle.answer.specs.Answer.{number}
 use Rattle.format.specs.Format.{FRAME_TYPE, PREFIX_TYPE, FLI_PSTAMP}
 use Rattle.answer.specs.declared.Refusal.TheVariants.{NoRoom}
-use Rattle.chunks.specs.Headers.{header_at}
-use Rattle.chunks.specs.declared.Header.{Header}
-use Rattle.chunks.specs.declared.Header.TheVariants as chunk
+use Rattle.chunks.specs.Headers.{header_at, Header}
 use Rattle.state.specs.Outcome.{Outcome, fitted}
-use Rattle.reel_header.specs.Head.{head_of}
-use Rattle.chunks.specs.Spans.{HEADER_BYTES, extent}
-use Rattle.chunks.specs.declared.Extent.{Extent}
-use Rattle.chunks.specs.declared.Extent.TheVariants.{Fault, End}
+use Rattle.reel_header.specs.Head.{head_of, Headed}
+use Rattle.chunks.specs.Spans.{HEADER_BYTES, extent, Extent}
 use Rattle.reel_header.specs.declared.Takes.TheVariants.{FlcOnly}
-use Rattle.reel_header.specs.declared.Head.{Head}
-use Rattle.reel_header.specs.declared.Head.TheVariants as head
 use Rattle.list_text.specs.Text.{head_line, chunk_line, ok_line, refused_line}
 
 -- "Chunks of kind 61696 and 61946 hold children after 16 bytes, as many as their count; kind 18 holds one after 12"
@@ -31,9 +25,9 @@ opens kind parent = cond (eqb kind FLI_PSTAMP) (not (eqb parent FLI_PSTAMP)) (co
 -- a child at offset at of b, which ends where its container does, and then the rest: "stops at the first child that doesn't fit (header not whole,
 -- size under 6 or past the container)"; inside: what is listed of a child that is opened
 abbrev pub after_child : (ℕ → ℕ → ℕ → List ℕ) → ℕ → ℕ → ℕ → Header → (ℕ → List ℕ) → List ℕ
-after_child inside depth parent at (chunk.Fault e) rest = []
-after_child inside depth parent at (chunk.Chunk kind end) rest =
-    chunk_line depth at kind (end - at) ++ (cond (opens kind parent) (inside at end kind) [] ++ rest end)
+after_child inside depth parent at (Err e) rest = []
+after_child inside depth parent at (Ok c) rest =
+    chunk_line depth at c.kind (c.end - at) ++ (cond (opens c.kind parent) (inside at c.end c.kind) [] ++ rest c.end)
 
 -- at most count children from offset at on, up to offset to
 unfoldable pub children_by : (ℕ → ℕ → ℕ → List ℕ) → List ℕ → ℕ → ℕ → ℕ → ℕ → ℕ → List ℕ
@@ -72,14 +66,14 @@ reel_lines b width height frames end = head_line width height frames ++ (chunk_l
 
 -- "either one line `refused N PLACE`, or" these, by how far the walk over the frames went
 abbrev pub walk_lines : List ℕ → ℕ → ℕ → ℕ → Extent → List ℕ
-walk_lines b width height frames (Fault e place) = refused_line (number e) place
-walk_lines b width height frames (End end) = reel_lines b width height frames end
+walk_lines b width height frames (Err r) = refused_line (number r.0) r.1
+walk_lines b width height frames (Ok end) = reel_lines b width height frames end
 
 -- "the other refusals are the trailer walk's, the trailer itself unread"
-abbrev pub head_lines : List ℕ → Head → List ℕ
-head_lines bytes (head.Fault e) = refused_line (number e) 0
-head_lines bytes (head.Reel picture frames size speed) =
-    walk_lines (take size bytes) picture.width picture.height frames (extent (take size bytes) (suc frames) HEADER_BYTES)
+abbrev pub head_lines : List ℕ → Headed → List ℕ
+head_lines bytes (Err e) = refused_line (number e) 0
+head_lines bytes (Ok h) =
+    walk_lines (take h.size bytes) h.picture.width h.picture.height h.frames (extent (take h.size bytes) (suc h.frames) HEADER_BYTES)
 
 -- "reads up to 65,536 bytes .. Input past that is refused 3, place 0"; "Listing .. stay FLC" (document 02, Req 06)
 abbrev pub LIST_INPUT : ℕ

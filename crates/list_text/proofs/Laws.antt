@@ -11,7 +11,7 @@ use Rattle.words.specs.Writes.{put}
 use Rattle.words.proofs.Laws.{put_one, put_then, length_put}
 use Rattle.words.proofs.Tests.{by_test}
 use Rattle.format.specs.Limits.{max_width, max_height, max_frames, Wide, High}
-use Rattle.list_text.specs.Text.{SPACE, NEWLINE, digit, digits, decimal, numeral, chunk_line, line_most, head_line, head_most, ok_line, refused_line, refused_most}
+use Rattle.list_text.specs.Text.{SPACE, NEWLINE, digit, digits, decimal, numeral, chunk_line, line_most, head_line, head_most, refused_line, refused_most}
 use Rattle.list_text.specs.Stored.{Stored}
 
 -- decimal
@@ -183,10 +183,6 @@ stored_then {d} {e} {f} {at} {m} {r} {t} {u} room s q =
       end = omega (arith, s.end, q.end);
     }
 
--- two bytes
-pub stored_two : {d e : List ℕ} (at x y : ℕ) → e ≡ put d at (x ∷ y ∷ []) → Stored d at (x ∷ y ∷ []) e (at + 2)
-stored_two at x y e = record { bytes = e; end = refl }
-
 -- a number of one digit, and the last digit of a longer one
 pub stored_small : (d : List ℕ) (at x : ℕ) → x < 10 → at < length d → Stored d at (decimal x) (set d at (48 + x)) (at + 1)
 stored_small d at x h i =
@@ -223,40 +219,32 @@ module _ {d : List ℕ} {at : ℕ} where
       subst (λ (x : List ℕ). Stored d at x k r) (append_assoc (a ++ b) c z ∙ append_assoc a b (c ++ z))
       (stored_then (omega arith) (stored_then (omega arith) (stored_then (omega arith) s t) u) v)
 
-  pub stored_ok : {e : List ℕ} → at + 3 ≤ length d → e ≡ put d at (111 ∷ 107 ∷ []) → Stored d at ok_line (set e (at + 2) NEWLINE) (at + 3)
-  stored_ok {e} room p = record { bytes = (stored_byte {t = 111 ∷ 107 ∷ []} NEWLINE room (stored_two at 111 107 p)).bytes; end = refl }
-
 module _ {d : List ℕ} where
-  pub stored_head : {e f g k i : List ℕ} {m n r : ℕ} (w h frames : ℕ) → length (head_line w h frames) ≤ length d
-      → e ≡ put d 0 (102 ∷ 108 ∷ []) → f ≡ put e 2 (105 ∷ 99 ∷ []) → Stored (set f 4 SPACE) 5 (numeral w SPACE) g m → Stored g m (numeral h SPACE) k n
-      → Stored k n (numeral frames NEWLINE) i r → Stored d 0 (head_line w h frames) i r
+  pub stored_head : {e f g i : List ℕ} {k m n r : ℕ} (w h frames : ℕ) → length (head_line w h frames) ≤ length d
+      → Stored d 0 (102 ∷ 108 ∷ 105 ∷ 99 ∷ SPACE ∷ []) e k → Stored e k (numeral w SPACE) f m → Stored f m (numeral h SPACE) g n
+      → Stored g n (numeral frames NEWLINE) i r → Stored d 0 (head_line w h frames) i r
   unfolding head_line
-  stored_head {e} {f} {g} {k} {i} {m} {n} {r} w h frames room p q s t u =
+  stored_head {e} {f} {g} {i} {k} {m} {n} {r} w h frames room s t u v =
       let a = numeral w SPACE in
       let b = numeral h SPACE in
       let c = numeral frames NEWLINE in
       let front : List ℕ = 102 ∷ 108 ∷ 105 ∷ 99 ∷ SPACE ∷ [] in
       let l = head_length w h frames in
-      let first = stored_then {d = d} {at = 0} {t = 102 ∷ 108 ∷ []} (omega arith) (stored_two 0 102 108 p) (stored_two 2 105 99 q) in
-      let start = stored_byte {d = d} {at = 0} {t = 102 ∷ 108 ∷ 105 ∷ 99 ∷ []} SPACE (omega arith) first in
       let x = length-append front a in
       let y = length-append (front ++ a) b in
       let z = length-append ((front ++ a) ++ b) c in
-      subst (λ (v : List ℕ). Stored d 0 v i r) (append_assoc (front ++ a) b c ∙ append_assoc front a (b ++ c))
-      (stored_then (omega arith) (stored_then (omega arith) (stored_then (omega arith) start s) t) u)
+      subst (λ (o : List ℕ). Stored d 0 o i r) (append_assoc (front ++ a) b c ∙ append_assoc front a (b ++ c))
+      (stored_then (omega arith) (stored_then (omega arith) (stored_then (omega arith) s t) u) v)
 
-  pub stored_refused : {e f g k i j : List ℕ} {m r : ℕ} (n place : ℕ) → length (refused_line n place) ≤ length d
-      → e ≡ put d 0 (114 ∷ 101 ∷ []) → f ≡ put e 2 (102 ∷ 117 ∷ []) → g ≡ put f 4 (115 ∷ 101 ∷ []) → k ≡ put g 6 (100 ∷ SPACE ∷ [])
-      → Stored k 8 (numeral n SPACE) i m → Stored i m (numeral place NEWLINE) j r → Stored d 0 (refused_line n place) j r
+  pub stored_refused : {e f i : List ℕ} {k m r : ℕ} (n place : ℕ) → length (refused_line n place) ≤ length d
+      → Stored d 0 (114 ∷ 101 ∷ 102 ∷ 117 ∷ 115 ∷ 101 ∷ 100 ∷ SPACE ∷ []) e k
+      → Stored e k (numeral n SPACE) f m → Stored f m (numeral place NEWLINE) i r → Stored d 0 (refused_line n place) i r
   unfolding refused_line
-  stored_refused {e} {f} {g} {k} {i} {j} {m} {r} n place room p q s t u v =
+  stored_refused {e} {f} {i} {k} {m} {r} n place room s t u =
       let a = numeral n SPACE in
       let b = numeral place NEWLINE in
       let front : List ℕ = 114 ∷ 101 ∷ 102 ∷ 117 ∷ 115 ∷ 101 ∷ 100 ∷ SPACE ∷ [] in
       let l = refused_length n place in
-      let two = stored_then {d = d} {at = 0} {t = 114 ∷ 101 ∷ []} (omega arith) (stored_two 0 114 101 p) (stored_two 2 102 117 q) in
-      let three = stored_then {d = d} {at = 0} {t = 114 ∷ 101 ∷ 102 ∷ 117 ∷ []} (omega arith) two (stored_two 4 115 101 s) in
-      let four = stored_then {d = d} {at = 0} {t = 114 ∷ 101 ∷ 102 ∷ 117 ∷ 115 ∷ 101 ∷ []} (omega arith) three (stored_two 6 100 SPACE t) in
       let x = length-append front a in
       let y = length-append (front ++ a) b in
-      subst (λ (z : List ℕ). Stored d 0 z j r) (append_assoc front a b) (stored_then (omega arith) (stored_then (omega arith) four u) v)
+      subst (λ (z : List ℕ). Stored d 0 z i r) (append_assoc front a b) (stored_then (omega arith) (stored_then (omega arith) s t) u)

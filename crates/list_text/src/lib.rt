@@ -14,11 +14,11 @@ fn put_decimal(out: &mut [u8], at: usize, x: usize) -> usize
     ensures { Stored out.old at (decimal x) out.new result }
 {
     if x < 10 {
-        out[at] = 48 + x as u8;
+        out[at] = b'0' + x as u8;
         return at + 1;
     }
     let end = put_decimal(out, at, x / 10);
-    out[end] = 48 + (x % 10) as u8;
+    out[end] = b'0' + (x % 10) as u8;
     end + 1
 }
 
@@ -32,17 +32,24 @@ pub fn put_number(out: &mut [u8], at: usize, x: usize, behind: u8) -> usize
     end + 1
 }
 
+// Stores text, and gives where that ends.
+fn put_text(out: &mut [u8], at: usize, text: &[u8]) -> usize
+    requires { at + length text.now ≤ length out.old }
+    ensures { Stored out.old at text.now out.new result }
+{
+    words::put_bytes(out, at, text);
+    at + text.len()
+}
+
 // Stores the first line.
 pub fn put_head(out: &mut [u8], width: usize, height: usize, frames: usize) -> usize
     requires { length (head_line width height frames) ≤ length out.old }
     ensures { Stored out.old 0 (head_line width height frames) out.new result }
 {
-    words::put_two(out, 0, 102, 108);
-    words::put_two(out, 2, 105, 99);
-    out[4] = 32;
-    let a = put_number(out, 5, width, 32);
-    let b = put_number(out, a, height, 32);
-    put_number(out, b, frames, 10)
+    let a = put_text(out, 0, b"flic ");
+    let b = put_number(out, a, width, b' ');
+    let c = put_number(out, b, height, b' ');
+    put_number(out, c, frames, b'\n')
 }
 
 // Stores a chunk's line.
@@ -57,10 +64,10 @@ pub fn put_line(
     requires { at + length (chunk_line depth offset kind size) ≤ length out.old }
     ensures { Stored out.old at (chunk_line depth offset kind size) out.new result }
 {
-    let a = put_number(out, at, depth, 32);
-    let b = put_number(out, a, offset, 32);
-    let c = put_number(out, b, kind, 32);
-    put_number(out, c, size, 10)
+    let a = put_number(out, at, depth, b' ');
+    let b = put_number(out, a, offset, b' ');
+    let c = put_number(out, b, kind, b' ');
+    put_number(out, c, size, b'\n')
 }
 
 // Stores the last line.
@@ -68,9 +75,7 @@ pub fn put_ok(out: &mut [u8], at: usize) -> usize
     requires { at + 3 ≤ length out.old }
     ensures { Stored out.old at ok_line out.new result }
 {
-    words::put_two(out, at, 111, 107);
-    out[at + 2] = 10;
-    at + 3
+    put_text(out, at, b"ok\n")
 }
 
 // Stores the line of a refusal.
@@ -78,10 +83,8 @@ pub fn put_refused(out: &mut [u8], refusal: Refusal, place: usize) -> usize
     requires { length (refused_line (number refusal) place) ≤ length out.old }
     ensures { Stored out.old 0 (refused_line (number refusal) place) out.new result }
 {
-    words::put_two(out, 0, 114, 101);
-    words::put_two(out, 2, 102, 117);
-    words::put_two(out, 4, 115, 101);
-    words::put_two(out, 6, 100, 32);
-    let a = put_number(out, 8, answer::number_of(refusal) as usize, 32);
-    put_number(out, a, place, 10)
+    let a = put_text(out, 0, b"refused ");
+    // std has no From from u32 to usize, and the try_from that it has gives a Result that would have to be unwrapped.
+    let b = put_number(out, a, u32::from(refusal) as usize, b' ');
+    put_number(out, b, place, b'\n')
 }

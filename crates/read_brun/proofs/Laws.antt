@@ -10,23 +10,20 @@ use borrow.Author.Tests.{le-leb, lt-leb, lt-ltb, le-ltb, ltb-true, ltb-false, le
 use lib.ListN.{length, drop, take, get_or, replicate, length-drop, length-replicate, length-append}
 use lib.Seq.{length-take-le}
 use lib.Dec.{leb, ltb}
+use Rattle.std.specs.Prelude.{Ok, Err}
 use Rattle.words.specs.Words.{require◌else◌then◌, magnitude, Bytes}
 use Rattle.words.specs.Writes.{put, applied}
 use Rattle.words.proofs.Laws.{magnitude_plus, magnitude_minus, put_nil, put_append, row_in, bytes_get_d, bytes_take, bytes_drop}
 use Rattle.words.proofs.Bytewise.{bytes_join, bytes_replicate}
 use Rattle.words.proofs.Tests.{by_test, cond_holds}
-use Rattle.walk.specs.Walk.{stored, Room}
+use Rattle.walk.specs.Walk.{stored, Room, Verdict}
 use Rattle.walk.specs.declared.Pass.{Pass}
 use Rattle.walk.specs.declared.Pass.TheVariants.{Dry, Wet}
 use Rattle.walk.proofs.Laws.{VerdictIn, fault_not_end, wrote_one, seen}
 use Rattle.walk.proofs.Sound.{Sound}
 use Rattle.answer.specs.declared.Refusal.{Refusal}
 use Rattle.answer.specs.declared.Refusal.TheVariants.{BodyEnds, ZeroCount, PastWidth}
-use Rattle.walk.specs.declared.Verdict.{Verdict}
-use Rattle.walk.specs.declared.Verdict.TheVariants as verdict
-use Rattle.read_brun.specs.Brun.{Run, run_ends, run_fault, run_before, run_onward, data_bytes, pixels, packet_of, packet_at, after_packet, packets, row, rows, brun}
-use Rattle.read_brun.specs.declared.BrunStep.{BrunStep}
-use Rattle.read_brun.specs.declared.BrunStep.TheVariants.{Fault, Pixels}
+use Rattle.read_brun.specs.Brun.{Run, run_ends, run_fault, run_before, run_onward, data_bytes, pixels, packet_of, packet_at, after_packet, packets, row, rows, brun, packet_to, BrunStep}
 
 -- types: below 128 a repeat, from 128 on a copy
 
@@ -60,20 +57,20 @@ length_pixels b at t h =
 -- a packet
 
 module _ (b : List ℕ) (at left : ℕ) where
-  pub packet_cut : length b < at + 1 → packet_at b at left ≡ Fault BodyEnds
+  pub packet_cut : length b < at + 1 → packet_at b at left ≡ Err BodyEnds
   unfolding packet_at
   packet_cut h = simp (lt-leb (at + 1) (length b) h)
 
-  pub packet_zero : at + 1 ≤ length b → magnitude (get_or b at 0) < 1 → packet_at b at left ≡ Fault ZeroCount
+  pub packet_zero : at + 1 ≤ length b → magnitude (get_or b at 0) < 1 → packet_at b at left ≡ Err ZeroCount
   unfolding packet_at packet_of
   packet_zero h z = simp (le-leb (at + 1) (length b) h, lt-leb 1 (magnitude (get_or b at 0)) z)
 
-  pub packet_past : at + 1 ≤ length b → 1 ≤ magnitude (get_or b at 0) → left < magnitude (get_or b at 0) → packet_at b at left ≡ Fault PastWidth
+  pub packet_past : at + 1 ≤ length b → 1 ≤ magnitude (get_or b at 0) → left < magnitude (get_or b at 0) → packet_at b at left ≡ Err PastWidth
   unfolding packet_at packet_of
   packet_past h z k = simp (le-leb (at + 1) (length b) h, le-leb 1 (magnitude (get_or b at 0)) z, lt-leb (magnitude (get_or b at 0)) left k)
 
   pub packet_short : at + 1 ≤ length b → 1 ≤ magnitude (get_or b at 0) → magnitude (get_or b at 0) ≤ left → length b < at + 1 + data_bytes (get_or b at 0)
-      → packet_at b at left ≡ Fault BodyEnds
+      → packet_at b at left ≡ Err BodyEnds
   unfolding packet_at packet_of
   packet_short h z k l =
       simp (
@@ -84,7 +81,7 @@ module _ (b : List ℕ) (at left : ℕ) where
       )
 
   pub packet_whole : at + 1 ≤ length b → 1 ≤ magnitude (get_or b at 0) → magnitude (get_or b at 0) ≤ left → at + 1 + data_bytes (get_or b at 0) ≤ length b
-      → packet_at b at left ≡ Pixels (get_or b at 0) (magnitude (get_or b at 0)) (at + 1 + data_bytes (get_or b at 0))
+      → packet_at b at left ≡ Ok (packet_to (get_or b at 0) (magnitude (get_or b at 0)) (at + 1 + data_bytes (get_or b at 0)))
   unfolding packet_at packet_of
   packet_whole h z k l =
       simp (
@@ -97,9 +94,9 @@ module _ (b : List ℕ) (at left : ℕ) where
   -- the same where n pixels are given and the data ends at end
   pub packet_told : (n end : ℕ) → at + 1 ≤ length b → 1 ≤ n → n ≤ left → end ≤ length b → magnitude (get_or b at 0) ≡ n
       → at + 1 + data_bytes (get_or b at 0) ≡ end
-      → Pixels (get_or b at 0) n end ≡ packet_at b at left
+      → Ok (packet_to (get_or b at 0) n end) ≡ packet_at b at left
   packet_told n end h z k l m d =
-      sym (packet_whole h (omega arith) (omega arith) (omega arith) ∙ ap₂ (λ (x y : ℕ). Pixels (get_or b at 0) x y) m d)
+      sym (packet_whole h (omega arith) (omega arith) (omega arith) ∙ ap₂ (λ (x y : ℕ). Ok (packet_to (get_or b at 0) x y)) m d)
 
 -- packets of a row
 
@@ -124,14 +121,14 @@ module _ (b : List ℕ) where
   packets_as (suc left) at h p q =
       ap₂ (λ (x : BrunStep) (k : ℕ). after_packet b at x (λ n end. packets b k (n - 1) end)) q (sym (sub-one (suc left)))
 
-  pub packets_stop : (left at : ℕ) → 0 < left → (e : Refusal) → packet_at b at left ≡ Fault e → packets b left 0 at ≡ run_fault e
-  packets_stop left at h e q = packets_as left at h (Fault e) q
+  pub packets_stop : (left at : ℕ) → 0 < left → (e : Refusal) → packet_at b at left ≡ Err e → packets b left 0 at ≡ run_fault e
+  packets_stop left at h e q = packets_as left at h (Err e) q
 
-  pub packets_more : (left at : ℕ) → 0 < left → (t n end : ℕ) → packet_at b at left ≡ Pixels t n end → 1 ≤ n → n ≤ left
+  pub packets_more : (left at : ℕ) → 0 < left → (t n end : ℕ) → packet_at b at left ≡ Ok (packet_to t n end) → 1 ≤ n → n ≤ left
       → packets b left 0 at ≡ run_before (pixels b (at + 1) t) (packets b (left - n) 0 end)
   packets_more left at h t n end q some fits =
       let e : left - 1 - (n - 1) ≡ left - n = omega arith in
-      packets_as left at h (Pixels t n end) q
+      packets_as left at h (Ok (packet_to t n end)) q
       ∙ ap (λ (r : Run). run_before (pixels b (at + 1) t) r) (packets_skip (left - 1) (n - 1) end (omega arith) ∙ ap (λ (k : ℕ). packets b k 0 end) e)
 
 -- a row
@@ -159,19 +156,20 @@ module _ (w : ℕ) (b : List ℕ) where
   rows_as (suc h) at k v q =
       ap₂ (λ (x : Verdict) (n : ℕ). run_onward (row w b at).pixels x (λ end. rows w b n end)) q (sym (sub-one (suc h)))
 
-  pub rows_stop : (h at : ℕ) → 0 < h → (e : Refusal) → (row w b at).verdict ≡ verdict.Fault e
-      → rows w b h at ≡ record { pixels = (row w b at).pixels; verdict = verdict.Fault e }
-  rows_stop h at k e q = rows_as h at k (verdict.Fault e) q
+  pub rows_stop : (h at : ℕ) → 0 < h → (e : Refusal) → (row w b at).verdict ≡ Err e
+      → rows w b h at ≡ record { pixels = (row w b at).pixels; verdict = Err e }
+  rows_stop h at k e q = rows_as h at k (Err e) q
 
-  pub rows_more : (h at : ℕ) → 0 < h → (end : ℕ) → (row w b at).verdict ≡ verdict.Ends end → rows w b h at
+  pub rows_more : (h at : ℕ) → 0 < h → (end : ℕ) → (row w b at).verdict ≡ Ok end → rows w b h at
       ≡ run_before (row w b at).pixels (rows w b (h - 1) end)
-  rows_more h at k end q = rows_as h at k (verdict.Ends end) q
+  rows_more h at k end q = rows_as h at k (Ok end) q
 
 -- the bounds of a packet: its pixels lie in the row, its data in the body
 
 abbrev pub PacketIn : List ℕ → ℕ → ℕ → BrunStep → Type 0
-PacketIn b at left (Fault e) = Unit {0}
-PacketIn b at left (Pixels t n end) = (1 ≤ n) × (n ≤ left) × (magnitude t ≡ n) × (at + 1 + data_bytes t ≡ end) × (end ≤ length b)
+PacketIn b at left (Err e) = Unit {0}
+PacketIn b at left (Ok p) =
+    (1 ≤ p.count) × (p.count ≤ left) × (magnitude p.code ≡ p.count) × (at + 1 + data_bytes p.code ≡ p.end) × (p.end ≤ length b)
 
 pub packet_in : (b : List ℕ) (at left : ℕ) (p : BrunStep) → packet_at b at left ≡ p → PacketIn b at left p
 unfolding packet_at packet_of
@@ -183,8 +181,8 @@ packet_in b at left p e = subst (PacketIn b at left) e
 
     go : (a z k l : Bool) → leb 1 (magnitude t) ≡ z → leb (magnitude t) left ≡ k → leb (at + 1 + data_bytes t) (length b) ≡ l
         → PacketIn b at left
-        (cond a (cond z (cond k (cond l (Pixels t (magnitude t) (at + 1 + data_bytes t)) (Fault BodyEnds)) (Fault PastWidth)) (Fault ZeroCount))
-        (Fault BodyEnds))
+        (cond a (cond z (cond k (cond l (Ok (packet_to t (magnitude t) (at + 1 + data_bytes t))) (Err BodyEnds)) (Err PastWidth)) (Err ZeroCount))
+        (Err BodyEnds))
     go false z k l p q r = tt
     go true false k l p q r = tt
     go true true false l p q r = tt
@@ -193,7 +191,7 @@ packet_in b at left p e = subst (PacketIn b at left) e
 
 -- how long a row is, and where its data ends
 
-packets_length : (b : List ℕ) (left k at end : ℕ) → k ≤ left → (packets b left k at).verdict ≡ verdict.Ends end → length (packets b left k at).pixels + k ≡ left
+packets_length : (b : List ℕ) (left k at end : ℕ) → k ≤ left → (packets b left k at).verdict ≡ Ok end → length (packets b left k at).pixels + k ≡ left
 unfolding packets
 packets_length b zero zero at end h v = refl
 packets_length b zero (suc k) at end h v = absurd (not-suc-le-zero h)
@@ -201,27 +199,27 @@ packets_length b (suc left) (suc k) at end h v = omega (arith, packets_length b 
 packets_length b (suc left) zero at end h v = go (packet_at b at (suc left)) (packet_in b at (suc left) _ refl) (λ m j e i u. packets_length b left m j e i u) v
   where
     go : (p : BrunStep) → PacketIn b at (suc left) p
-        → ((m j e : ℕ) → m ≤ left → (packets b left m j).verdict ≡ verdict.Ends e → length (packets b left m j).pixels + m ≡ left)
-        → (after_packet b at p (λ n j. packets b left (n - 1) j)).verdict ≡ verdict.Ends end
+        → ((m j e : ℕ) → m ≤ left → (packets b left m j).verdict ≡ Ok e → length (packets b left m j).pixels + m ≡ left)
+        → (after_packet b at p (λ n j. packets b left (n - 1) j)).verdict ≡ Ok end
         → length (after_packet b at p (λ n j. packets b left (n - 1) j)).pixels + 0 ≡ suc left
-    go (Fault e) i ih u = fault_not_end u
-    go (Pixels t n j) i ih u =
+    go (Err e) i ih u = fault_not_end u
+    go (Ok p) i ih u =
         omega (
           arith,
-          length-append (pixels b (at + 1) t) (packets b left (n - 1) j).pixels,
-          length_pixels b (at + 1) t (omega (arith, i.3, i.4)),
+          length-append (pixels b (at + 1) p.code) (packets b left (p.count - 1) p.end).pixels,
+          length_pixels b (at + 1) p.code (omega (arith, i.3, i.4)),
           i.0,
           i.1,
           i.2,
-          ih (n - 1) j end (omega (arith, i.0, i.1)) u,
+          ih (p.count - 1) p.end end (omega (arith, i.0, i.1)) u,
         )
 
 -- a row that ends has w pixels
-pub row_length : (w : ℕ) (b : List ℕ) (at end : ℕ) → (row w b at).verdict ≡ verdict.Ends end → length (row w b at).pixels ≡ w
+pub row_length : (w : ℕ) (b : List ℕ) (at end : ℕ) → (row w b at).verdict ≡ Ok end → length (row w b at).pixels ≡ w
 unfolding row
 row_length w b at end v = go (leb (at + 1) (length b)) v
   where
-    go : (c : Bool) → (cond c (packets b w 0 (at + 1)) (run_fault BodyEnds)).verdict ≡ verdict.Ends end
+    go : (c : Bool) → (cond c (packets b w 0 (at + 1)) (run_fault BodyEnds)).verdict ≡ Ok end
         → length (cond c (packets b w 0 (at + 1)) (run_fault BodyEnds)).pixels ≡ w
     go true u = omega (arith, packets_length b w 0 (at + 1) end (omega arith) u)
     go false u = fault_not_end u
@@ -249,21 +247,21 @@ packets_sound b (suc left) zero at i h = go (packet_at b at (suc left)) (packet_
   where
     go : (p : BrunStep) → PacketIn b at (suc left) p → ((m j : ℕ) → j ≤ length b → m ≤ left → RunSound b (left - m) (packets b left m j))
         → RunSound b (suc left - 0) (after_packet b at p (λ n j. packets b left (n - 1) j))
-    go (Fault e) i ih = run_fault_lem b (suc left - 0) e
-    go (Pixels t n j) i ih =
-        let r = ih (n - 1) j i.4 (omega (arith, i.0, i.1)) in
+    go (Err e) i ih = run_fault_lem b (suc left - 0) e
+    go (Ok p) i ih =
+        let r = ih (p.count - 1) p.end i.4 (omega (arith, i.0, i.1)) in
         record {
           ends_in = r.ends_in;
           few = omega (
             arith,
-            length-append (pixels b (at + 1) t) (packets b left (n - 1) j).pixels,
-            length_pixels b (at + 1) t (omega (arith, i.3, i.4)),
+            length-append (pixels b (at + 1) p.code) (packets b left (p.count - 1) p.end).pixels,
+            length_pixels b (at + 1) p.code (omega (arith, i.3, i.4)),
             i.0,
             i.1,
             i.2,
             r.few,
           );
-          bytes = λ h. bytes_join (pixels b (at + 1) t) (packets b left (n - 1) j).pixels (pixels_bytes b (at + 1) t h) (r.bytes h);
+          bytes = λ h. bytes_join (pixels b (at + 1) p.code) (packets b left (p.count - 1) p.end).pixels (pixels_bytes b (at + 1) p.code h) (r.bytes h);
         }
 
 pub row_sound : (w : ℕ) (b : List ℕ) (at : ℕ) → RunSound b w (row w b at)
@@ -281,7 +279,7 @@ rows_sound w b (suc h) at i = go (row w b at).verdict (row_sound w b at).ends_in
   where
     go : (v : Verdict) → VerdictIn b v → ((end : ℕ) → end ≤ length b → RunSound b (w * h) (rows w b h end))
         → RunSound b (w * suc h) (run_onward (row w b at).pixels v (λ end. rows w b h end))
-    go (verdict.Ends end) i ih =
+    go (Ok end) i ih =
         let r = ih end i in
         let s = row_sound w b at in
         record {
@@ -289,7 +287,7 @@ rows_sound w b (suc h) at i = go (row w b at).verdict (row_sound w b at).ends_in
           few = omega (arith, length-append (row w b at).pixels (rows w b h end).pixels, s.few, r.few);
           bytes = λ k. bytes_join (row w b at).pixels (rows w b h end).pixels (s.bytes k) (r.bytes k);
         }
-    go (verdict.Fault e) i ih = let s = row_sound w b at in record { ends_in = tt; few = omega (arith, s.few); bytes = s.bytes }
+    go (Err e) i ih = let s = row_sound w b at in record { ends_in = tt; few = omega (arith, s.few); bytes = s.bytes }
 
 -- the whole picture
 
@@ -330,7 +328,7 @@ shown_on Wet d e to px n r l room s =
     ap (λ (x : List ℕ). (r.verdict, x)) (put_append d to px r.pixels n l (room refl) ∙ ap (λ (x : List ℕ). put x (to + n) r.pixels) (sym s))
 
 -- a whole packet, which leaves e of d, and then the packets after it
-pub packets_on : (p : Pass) (b d e : List ℕ) (to left at : ℕ) → 0 < left → (t n end : ℕ) → packet_at b at left ≡ Pixels t n end → Room p (to + left) d
+pub packets_on : (p : Pass) (b d e : List ℕ) (to left at : ℕ) → 0 < left → (t n end : ℕ) → packet_at b at left ≡ Ok (packet_to t n end) → Room p (to + left) d
     → e ≡ stored p d to (pixels b (at + 1) t) → shown p (packets b left 0 at) d to ≡ shown p (packets b (left - n) 0 end) e (to + n)
 packets_on p b d e to left at h t n end q room s =
     let i = packet_in b at left _ q in
@@ -340,7 +338,7 @@ packets_on p b d e to left at h t n end q room s =
 
 -- row k of h, which leaves e of d: the rows below it, if it ends; no more, if it meets a fault
 module _ (p : Pass) (w h : ℕ) (b d e : List ℕ) (k at : ℕ) (fits : k < h) (left : e ≡ stored p d (k * w) (row w b at).pixels) where
-  pub rows_on : (end : ℕ) → (row w b at).verdict ≡ verdict.Ends end → Room p (w * h) d
+  pub rows_on : (end : ℕ) → (row w b at).verdict ≡ Ok end → Room p (w * h) d
       → shown p (rows w b (h - k) at) d (k * w) ≡ shown p (rows w b (h - (k + 1)) end) e ((k + 1) * w)
   rows_on end v room =
       let m : h - k - 1 ≡ h - (k + 1) = omega arith in
@@ -350,10 +348,10 @@ module _ (p : Pass) (w h : ℕ) (b d e : List ℕ) (k at : ℕ) (fits : k < h) (
       (λ wet. omega (arith, row_in w h k fits, room wet)) left
       ∙ ap₂ (λ (x y : ℕ). shown p (rows w b x end) e y) m n
 
-  pub rows_stopped : (f : Refusal) → (row w b at).verdict ≡ verdict.Fault f → shown p (rows w b (h - k) at) d (k * w) ≡ (verdict.Fault f, e)
+  pub rows_stopped : (f : Refusal) → (row w b at).verdict ≡ Err f → shown p (rows w b (h - k) at) d (k * w) ≡ (Err f, e)
   unfolding shown
   rows_stopped f v =
-      ap (λ (r : Run). shown p r d (k * w)) (rows_stop w b (h - k) at (omega arith) f v) ∙ ap (λ (x : List ℕ). (verdict.Fault f, x)) (sym left)
+      ap (λ (r : Run). shown p r d (k * w)) (rows_stop w b (h - k) at (omega arith) f v) ∙ ap (λ (x : List ℕ). (Err f, x)) (sym left)
 
 -- the picture is its rows, from the first pixel on
 pub brun_seen : (p : Pass) (w h : ℕ) (b d : List ℕ) → seen p (brun w h b) d ≡ shown p (rows w b h 0) d 0

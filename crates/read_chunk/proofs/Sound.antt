@@ -35,21 +35,21 @@ module _ (z : Size) (wide : 1 ≤ z.width) where
   kind_sound : (kind : ℕ) (b : List ℕ) → SoundWrites z b (by_kind z kind b).pixels (by_kind z kind b).colours
   unfolding by_kind
   kind_sound kind b =
-      cond_holds Ok (eqb kind FLI_COLOR256) _ _ (on_palette_lem _ (colour_sound Of256 b))
-      (cond_holds Ok (eqb kind FLI_SS2) _ _ (on_picture_lem _ (ss2_sound z.width z.height b wide))
-      (cond_holds Ok (eqb kind FLI_COLOR) _ _ (on_palette_lem _ (colour_sound Of64 b))
-      (cond_holds Ok (eqb kind FLI_LC) _ _ (on_picture_lem _ (lc_sound z.width z.height b))
-      (cond_holds Ok (eqb kind FLI_BLACK) _ _ (on_picture_lem _ (black_sound (area z) b))
-      (cond_holds Ok (eqb kind FLI_BRUN) _ _ (on_picture_lem _ (brun_sound z.width z.height b))
-      (cond_holds Ok (eqb kind FLI_COPY) _ _ (on_picture_lem _ (copied_sound (area z) b)) (no_writes z b)))))))
+      cond_holds Fine (eqb kind FLI_COLOR256) _ _ (on_palette_lem _ (colour_sound Of256 b))
+      (cond_holds Fine (eqb kind FLI_SS2) _ _ (on_picture_lem _ (ss2_sound z.width z.height b wide))
+      (cond_holds Fine (eqb kind FLI_COLOR) _ _ (on_palette_lem _ (colour_sound Of64 b))
+      (cond_holds Fine (eqb kind FLI_LC) _ _ (on_picture_lem _ (lc_sound z.width z.height b))
+      (cond_holds Fine (eqb kind FLI_BLACK) _ _ (on_picture_lem _ (black_sound (area z) b))
+      (cond_holds Fine (eqb kind FLI_BRUN) _ _ (on_picture_lem _ (brun_sound z.width z.height b))
+      (cond_holds Fine (eqb kind FLI_COPY) _ _ (on_picture_lem _ (copied_sound (area z) b)) (no_writes z b)))))))
     where
-      Ok : ChunkWalk → Type 0
-      Ok c = SoundWrites z b c.pixels c.colours
+      Fine : ChunkWalk → Type 0
+      Fine c = SoundWrites z b c.pixels c.colours
 
-      on_picture_lem : (k : Walk) → Sound b (area z) k → Ok (on_picture (length b) k)
+      on_picture_lem : (k : Walk) → Sound b (area z) k → Fine (on_picture (length b) k)
       on_picture_lem k s = record { in_picture = s.inside; in_palette = tt; of_bytes = λ i. (s.bytewise i, tt) }
 
-      on_palette_lem : (k : Walk) → Sound b 768 k → Ok (on_palette (length b) k)
+      on_palette_lem : (k : Walk) → Sound b 768 k → Fine (on_palette (length b) k)
       on_palette_lem k s = record { in_picture = tt; in_palette = s.inside; of_bytes = λ i. (tt, s.bytewise i) }
 
   pub chunk_sound : (kind : ℕ) (b : List ℕ) → SoundWrites z b (sub_chunk z kind b).pixels (sub_chunk z kind b).colours

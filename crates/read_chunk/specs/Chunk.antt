@@ -1,12 +1,10 @@
 -- A sub-chunk of a frame (document 01, "Frames, chunks and rows"): what its body does, by its kind.
-use Rattle.std.specs.Prelude.{ℕ, ◌+◌, List, [], Bool, true, false, not, cond, length, eqb, leb}
+use Rattle.std.specs.Prelude.{ℕ, ◌+◌, List, [], Bool, true, false, not, cond, length, eqb, leb, Ok, Err}
 use Rattle.words.specs.Words.{require◌else◌then◌}
 use Rattle.words.specs.Writes.{Write}
 use Rattle.format.specs.Format.{FLI_COLOR256, FLI_SS2, FLI_COLOR, FLI_LC, FLI_BLACK, FLI_BRUN, FLI_COPY, FLI_PSTAMP}
-use Rattle.walk.specs.declared.Verdict.{Verdict}
-use Rattle.walk.specs.declared.Verdict.TheVariants as verdict
 use Rattle.answer.specs.declared.Refusal.TheVariants.{SpareBytes, NotInFli}
-use Rattle.walk.specs.Walk.{Walk}
+use Rattle.walk.specs.Walk.{Walk, Verdict}
 use Rattle.format.specs.Limits.{area}
 use Rattle.format.specs.declared.Format.{Format}
 use Rattle.format.specs.declared.Format.TheVariants.{Flc, Fli}
@@ -27,8 +25,8 @@ pub record ChunkWalk : Type 0 where
 -- "more than one spare byte after the data is refused. Refusals: 19, after all other checks of that sub-chunk" (document 02, Req 05); size: the
 -- body's bytes
 abbrev pub judged : ℕ → Verdict → Verdict
-judged size (verdict.Fault e) = verdict.Fault e
-judged size (verdict.Ends end) = require leb size (end + 1) else verdict.Fault SpareBytes then verdict.Ends end
+judged size (Err e) = Err e
+judged size (Ok end) = require leb size (end + 1) else Err SpareBytes then Ok end
 
 -- a walk over a body of so many bytes, on the picture or on the palette
 abbrev pub on_picture : ℕ → Walk → ChunkWalk
@@ -39,7 +37,7 @@ on_palette size w = record { pixels = []; colours = w.writes; verdict = judged s
 
 -- "Kind 18 (postage stamp), prefix chunks and unknown kinds are stepped over": the whole body is theirs
 abbrev pub skipped : List ℕ → ChunkWalk
-skipped b = record { pixels = []; colours = []; verdict = verdict.Ends (length b) }
+skipped b = record { pixels = []; colours = []; verdict = Ok (length b) }
 
 -- "Reading covers kinds 4, 7, 11, 12, 13, 15 and 16": the sub-chunk of a kind, with body b, in a frame of size z
 unfoldable pub by_kind : Size → ℕ → List ℕ → ChunkWalk
@@ -60,7 +58,7 @@ kind_ok Fli kind = cond (eqb kind FLI_SS2) false (not (eqb kind FLI_PSTAMP))
 
 -- a kind that has no place here: no write
 abbrev pub misplaced : ChunkWalk
-misplaced = record { pixels = []; colours = []; verdict = verdict.Fault NotInFli }
+misplaced = record { pixels = []; colours = []; verdict = Err NotInFli }
 
 -- the sub-chunk of a kind in a frame of its format: "kind 7 or 18 met is 20, as the sub-chunk's header is accepted", before its body
 unfoldable pub sub_chunk : Size → ℕ → List ℕ → ChunkWalk

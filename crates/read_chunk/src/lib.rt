@@ -6,23 +6,21 @@ ghost use Rattle.format.specs.Limits.{area, Sized};
 ghost use Rattle.walk.specs.Walk.{wrote, Room};
 ghost use Rattle.read_chunk.specs.Chunk.{judged, by_kind, kind_ok, sub_chunk};
 
+use answer::Refusal;
 use format::{Format, Size};
+use read_colour::Levels;
+use walk::{Pass, Verdict};
 
 // How a sub-chunk comes out whose body, of so many bytes, came out so: more than one spare byte behind the data is a fault.
-fn judge(verdict: walk::Verdict, size: usize) -> walk::Verdict
+fn judge(verdict: Verdict, size: usize) -> Verdict
     ensures { result ≡ judged size verdict }
 {
-    match verdict {
-        walk::Verdict::Fault(e) => walk::Verdict::Fault(e),
-        walk::Verdict::Ends(end) => {
-            if end < size {
-                if end < size - 1 {
-                    return walk::Verdict::Fault(answer::Refusal::SpareBytes);
-                }
-            }
-            walk::Verdict::Ends(end)
-        }
+    let end = verdict?;
+    let spare = size.saturating_sub(end);
+    if spare > 1 {
+        return Err(Refusal::SpareBytes);
     }
+    Ok(end)
 }
 
 // Walks over the body of a sub-chunk whose kind has its place here.
@@ -32,45 +30,25 @@ fn walk_kind(
     kind: usize,
     body: &[u8],
     size: Size,
-    pass: walk::Pass,
-) -> walk::Verdict
+    pass: Pass,
+) -> Verdict
     requires { Sized size.width size.height × Room pass (area size) picture.old × Room pass 768 palette.old }
     ensures verdict { result ≡ (by_kind size kind body.now).verdict }
     ensures pixels { picture.new ≡ wrote pass (by_kind size kind body.now).pixels picture.old }
     ensures colours { palette.new ≡ wrote pass (by_kind size kind body.now).colours palette.old }
 {
-    let length = body.len();
-    match kind {
-        format::FLI_COLOR256 => judge(
-            read_colour::walk_colour(palette, body, read_colour::Levels::Of256, pass),
-            length,
-        ),
-        format::FLI_SS2 => judge(
-            read_ss2::walk_ss2(picture, body, size.width, size.height, pass),
-            length,
-        ),
-        format::FLI_COLOR => judge(
-            read_colour::walk_colour(palette, body, read_colour::Levels::Of64, pass),
-            length,
-        ),
-        format::FLI_LC => judge(
-            read_lc::walk_lc(picture, body, size.width, size.height, pass),
-            length,
-        ),
-        format::FLI_BLACK => judge(
-            read_full::walk_black(picture, size.width * size.height, pass),
-            length,
-        ),
-        format::FLI_BRUN => judge(
-            read_brun::walk_brun(picture, body, size.width, size.height, pass),
-            length,
-        ),
-        format::FLI_COPY => judge(
-            read_full::walk_copy(picture, body, size.width * size.height, pass),
-            length,
-        ),
-        _ => walk::Verdict::Ends(length),
-    }
+    let verdict = match kind {
+        format::FLI_COLOR256 => read_colour::walk_colour(palette, body, Levels::Of256, pass),
+        format::FLI_SS2 => read_ss2::walk_ss2(picture, body, size.width, size.height, pass),
+        format::FLI_COLOR => read_colour::walk_colour(palette, body, Levels::Of64, pass),
+        format::FLI_LC => read_lc::walk_lc(picture, body, size.width, size.height, pass),
+        format::FLI_BLACK => read_full::walk_black(picture, size.width * size.height, pass),
+        format::FLI_BRUN => read_brun::walk_brun(picture, body, size.width, size.height, pass),
+        format::FLI_COPY => read_full::walk_copy(picture, body, size.width * size.height, pass),
+        // A kind stays a number: a file may have any, and what is unknown is stepped over with its number unread.
+        _ => Ok(body.len()),
+    };
+    judge(verdict, body.len())
 }
 
 // Whether a kind has its place in frames of this format.
@@ -79,12 +57,7 @@ fn kind_ok(format: Format, kind: usize) -> bool
 {
     match format {
         Format::Flc => true,
-        Format::Fli => {
-            if kind == format::FLI_SS2 {
-                return false;
-            }
-            kind != format::FLI_PSTAMP
-        }
+        Format::Fli => kind != format::FLI_SS2 && kind != format::FLI_PSTAMP,
     }
 }
 
@@ -95,16 +68,15 @@ pub fn walk_chunk(
     kind: usize,
     body: &[u8],
     size: Size,
-    pass: walk::Pass,
-) -> walk::Verdict
+    pass: Pass,
+) -> Verdict
     requires { Sized size.width size.height × Room pass (area size) picture.old × Room pass 768 palette.old }
     ensures verdict { result ≡ (sub_chunk size kind body.now).verdict }
     ensures pixels { picture.new ≡ wrote pass (sub_chunk size kind body.now).pixels picture.old }
     ensures colours { palette.new ≡ wrote pass (sub_chunk size kind body.now).colours palette.old }
 {
-    let format = size.format;
-    if !kind_ok(format, kind) {
-        return walk::Verdict::Fault(answer::Refusal::NotInFli);
+    if !kind_ok(size.format, kind) {
+        return Err(Refusal::NotInFli);
     }
     walk_kind(picture, palette, kind, body, size, pass)
 }

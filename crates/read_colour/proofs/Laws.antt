@@ -1,15 +1,16 @@
 -- Laws of the definitions in specs/ that the proofs of the readers cite.
 use mathlib.Core.Path.{◌≡◌, ap, ◌∙◌, sym, refl, subst, ap₂}
 use mathlib.Core.List.{List, [], ◌∷◌, map}
-use mathlib.Core.Bool.{Bool, true, false, ◌&&◌, cond}
+use mathlib.Core.Bool.{Bool, true, false, cond}
 use Prim.Native.Nat.{ℕ, suc, zero, ◌≤◌, ◌<◌, ◌+◌, ◌-◌, ◌*◌}
 use native.Mathlib.Nat.{le_of_suc-le-suc, not-suc-le-zero}
-use native.Mathlib.Numerals.{add-one, sub-one}
+use native.Mathlib.Numerals.{sub-one}
 use native.Mathlib.Omega.{arith}
 use borrow.Author.Tests.{le-leb, lt-leb, leb-true}
-use lib.ListN.{length, drop, take, get_or, length-map, length-drop, drop_of_length-le}
+use lib.ListN.{length, drop, take, get_or, length-map, length-drop}
 use lib.Seq.{length-take-le}
 use lib.Dec.{leb}
+use Rattle.std.specs.Prelude.{Ok, Err}
 use Rattle.words.specs.Words.{require◌else◌then◌, u16_at, Bytes}
 use Rattle.words.proofs.Laws.{bytes_take, bytes_drop}
 use Rattle.words.proofs.Runs.{map_same}
@@ -20,13 +21,12 @@ use Rattle.walk.proofs.Sound.{Sound, sound_ends, sound_fault, sound_then}
 use Rattle.walk.specs.Walk.{Walk, ends, fault, and_then, stored}
 use Rattle.walk.specs.declared.Pass.{Pass}
 use Rattle.walk.proofs.Laws.{seen, seen_then}
-use Rattle.read_colour.specs.Colour.{level, low_levels, levels_ok, count_of, packets, packet_of, packet_at, after_packet, colour}
+use Rattle.read_colour.specs.Colour.{level, low_levels, levels_ok, count_of, packets, packet_of, packet_at, after_packet, colour, colours_at, ColourStep}
 use Rattle.answer.specs.declared.Refusal.{Refusal}
 use Rattle.answer.specs.declared.Refusal.TheVariants.{BodyEnds, PastPalette, OverLevel}
+use Rattle.read_colour.specs.declared.Colours.{Colours}
 use Rattle.read_colour.specs.declared.Levels.{Levels}
 use Rattle.read_colour.specs.declared.Levels.TheVariants.{Of64, Of256}
-use Rattle.read_colour.specs.declared.ColourStep.{ColourStep}
-use Rattle.read_colour.specs.declared.ColourStep.TheVariants.{Fault, Colours}
 
 -- a count that is not 0 is itself
 pub count_pos : (x : ℕ) → (x ≡ 0 → ⊥) → x ≡ count_of x
@@ -35,24 +35,6 @@ count_pos zero h = absurd (h refl)
 count_pos (suc x) h = refl
 
 -- levels
-
-levels_cons : (xs : List ℕ) (i : ℕ) → i < length xs → low_levels (drop i xs) ≡ (leb (get_or xs i 0) max_level && low_levels (drop (suc i) xs))
-unfolding low_levels
-levels_cons [] i h = absurd (not-suc-le-zero h)
-levels_cons (x ∷ xs) zero h = refl
-levels_cons (x ∷ xs) (suc i) h = levels_cons xs i (le_of_suc-le-suc h)
-
--- a loop over components: at one that is too high, at another, at the end
-module _ (xs : List ℕ) (i : ℕ) where
-  pub levels_high : i < length xs → max_level < get_or xs i 0 → low_levels (drop i xs) ≡ false
-  levels_high h k = levels_cons xs i h ∙ simp (lt-leb (get_or xs i 0) max_level k)
-
-  pub levels_low : i < length xs → get_or xs i 0 ≤ max_level → low_levels (drop i xs) ≡ low_levels (drop (i + 1) xs)
-  levels_low h k = rw add-one (levels_cons xs i h ∙ simp (le-leb (get_or xs i 0) max_level k))
-
-  pub levels_none : length xs ≤ i → low_levels (drop i xs) ≡ true
-  unfolding low_levels
-  levels_none h = ap low_levels (drop_of_length-le xs h)
 
 pub level_small : (xs : List ℕ) (i : ℕ) → low_levels xs ≡ true → i < length xs → get_or xs i 0 ≤ max_level
 unfolding low_levels
@@ -81,35 +63,35 @@ pub packet_at_lem : (levels : Levels) (b : List ℕ) (at i j m : ℕ) → at + 2
 unfolding packet_at
 packet_at_lem levels b at i j m h ej em = simp (le-leb (at + 2) (length b) h) (ap₂ (λ (x y : ℕ). packet_of levels b at x y) ej em)
 
-pub packet_cut : (levels : Levels) (b : List ℕ) (at i : ℕ) → length b < at + 2 → packet_at levels b at i ≡ Fault BodyEnds
+pub packet_cut : (levels : Levels) (b : List ℕ) (at i : ℕ) → length b < at + 2 → packet_at levels b at i ≡ Err BodyEnds
 unfolding packet_at
 packet_cut levels b at i h = simp (lt-leb (at + 2) (length b) h)
 
 module _ (levels : Levels) (b : List ℕ) (at j m : ℕ) where
-  pub packet_past : 256 < j + m → packet_of levels b at j m ≡ Fault PastPalette
+  pub packet_past : 256 < j + m → packet_of levels b at j m ≡ Err PastPalette
   unfolding packet_of
   packet_past k = simp (lt-leb (j + m) 256 k)
 
-  pub packet_short : j + m ≤ 256 → length b < at + 2 + 3 * m → packet_of levels b at j m ≡ Fault BodyEnds
+  pub packet_short : j + m ≤ 256 → length b < at + 2 + 3 * m → packet_of levels b at j m ≡ Err BodyEnds
   unfolding packet_of
   packet_short k l = simp (le-leb (j + m) 256 k, lt-leb (at + 2 + 3 * m) (length b) l)
 
   pub packet_level : at + 2 + 3 * m ≤ length b → j + m ≤ 256 → levels_ok levels (take (3 * m) (drop (at + 2) b)) ≡ false
-      → packet_of levels b at j m ≡ Fault OverLevel
+      → packet_of levels b at j m ≡ Err OverLevel
   unfolding packet_of
   packet_level h k e = simp (le-leb (j + m) 256 k, le-leb (at + 2 + 3 * m) (length b) h, e)
 
   pub packet_whole : at + 2 + 3 * m ≤ length b → j + m ≤ 256 → levels_ok levels (take (3 * m) (drop (at + 2) b)) ≡ true
-      → packet_of levels b at j m ≡ Colours (at + 2) (3 * j) (3 * m) (j + m)
+      → packet_of levels b at j m ≡ Ok (colours_at (at + 2) (3 * j) (3 * m) (j + m))
   unfolding packet_of
   packet_whole h k e = simp (le-leb (j + m) 256 k, le-leb (at + 2 + 3 * m) (length b) h, e)
 
 -- its bounds: it lies in the body and in the palette, and its components are in range
 
 abbrev pub PacketIn : Levels → List ℕ → ColourStep → Type 0
-PacketIn levels b (Fault e) = Unit {0}
-PacketIn levels b (Colours from to len next) =
-    (from + len ≤ length b) × (to + len ≤ 768) × (next ≤ 256) × (levels_ok levels (take len (drop from b)) ≡ true)
+PacketIn levels b (Err e) = Unit {0}
+PacketIn levels b (Ok p) =
+    (p.from + p.len ≤ length b) × (p.to + p.len ≤ 768) × (p.next ≤ 256) × (levels_ok levels (take p.len (drop p.from b)) ≡ true)
 
 pub packet_in : (levels : Levels) (b : List ℕ) (at i : ℕ) (p : ColourStep) → packet_at levels b at i ≡ p → PacketIn levels b p
 unfolding packet_at packet_of
@@ -125,7 +107,7 @@ packet_in levels b at i p e =
 
     go : (a k l v : Bool) → leb (j + m) 256 ≡ k → leb (at + 2 + 3 * m) (length b) ≡ l → levels_ok levels (take (3 * m) (drop (at + 2) b)) ≡ v
         → PacketIn levels b (cond a
-        (cond k (cond l (cond v (Colours (at + 2) (3 * j) (3 * m) (j + m)) (Fault OverLevel)) (Fault BodyEnds)) (Fault PastPalette)) (Fault BodyEnds))
+        (cond k (cond l (cond v (Ok (colours_at (at + 2) (3 * j) (3 * m) (j + m))) (Err OverLevel)) (Err BodyEnds)) (Err PastPalette)) (Err BodyEnds))
     go false k l v p q r = tt
     go true false l v p q r = tt
     go true true false v p q r = tt
@@ -147,22 +129,25 @@ module _ (levels : Levels) (b : List ℕ) where
   packets_none zero at i h = refl
   packets_none (suc n) at i h = absurd (not-suc-le-zero h)
 
-  pub packets_stop : (n at i : ℕ) → 0 < n → (e : Refusal) → Fault e ≡ packet_at levels b at i → packets levels b n at i ≡ fault e
+  pub packets_stop : (n at i : ℕ) → 0 < n → (e : Refusal) → Err e ≡ packet_at levels b at i → packets levels b n at i ≡ fault e
   packets_stop n at i h e q = packets_step n at i h ∙ ap (λ (p : ColourStep). after_packet levels b p (λ at' i'. packets levels b (n - 1) at' i')) (sym q)
 
-  pub packets_more : (n at i : ℕ) → 0 < n → (from to len next : ℕ) → Colours from to len next ≡ packet_at levels b at i
+  pub packets_more : (n at i : ℕ) → 0 < n → (from to len next : ℕ) → Ok (colours_at from to len next) ≡ packet_at levels b at i
       → packets levels b n at i ≡ and_then to (map (level levels) (take len (drop from b))) (packets levels b (n - 1) (from + len) next)
   packets_more n at i h from to len next q = packets_step n at i h
       ∙ ap (λ (p : ColourStep). after_packet levels b p (λ at' i'. packets levels b (n - 1) at' i')) (sym q)
 
-  -- a whole packet, which leaves e of d, and then the packets after it
-  pub packets_on : (p : Pass) (d e : List ℕ) (n at i : ℕ) → 0 < n → (from to len next : ℕ) → Colours from to len next ≡ packet_at levels b at i
-      → e ≡ stored p d to (map (level levels) (take len (drop from b)))
-      → seen p (packets levels b n at i) d ≡ seen p (packets levels b (n - 1) (from + len) next) e
-  packets_on p d e n at i h from to len next q s =
-      ap (λ (k : Walk). seen p k d) (packets_more n at i h from to len next q)
-      ∙ seen_then p to (map (level levels) (take len (drop from b))) d (packets levels b (n - 1) (from + len) next)
-      ∙ ap (seen p (packets levels b (n - 1) (from + len) next)) (sym s)
+  -- a whole packet after k of n, which leaves e of d, and then the packets after it
+  pub packets_on : (p : Pass) (d e : List ℕ) (n k at i : ℕ) → k < n → (c : Colours) → Ok c ≡ packet_at levels b at i
+      → e ≡ stored p d c.to (map (level levels) (take c.len (drop c.from b)))
+      → seen p (packets levels b (n - k) at i) d ≡ seen p (packets levels b (n - (k + 1)) (c.from + c.len) c.next) e
+  packets_on p d e n k at i h c q s =
+      let v = map (level levels) (take c.len (drop c.from b)) in
+      let less : n - k - 1 ≡ n - (k + 1) = omega arith in
+      ap (λ (w : Walk). seen p w d)
+      (packets_more (n - k) at i (omega arith) _ _ _ _ q ∙ ap (λ (m : ℕ). and_then c.to v (packets levels b m (c.from + c.len) c.next)) less)
+      ∙ seen_then p c.to v d (packets levels b (n - (k + 1)) (c.from + c.len) c.next)
+      ∙ ap (seen p (packets levels b (n - (k + 1)) (c.from + c.len) c.next)) (sym s)
 
   pub colours_open : (n : ℕ) → 2 ≤ length b → n ≡ u16_at b 0 → colour levels b ≡ packets levels b n 2 0
   unfolding colour
@@ -199,11 +184,12 @@ packets_sound levels b (suc n) at i h = go (packet_at levels b at i) (packet_in 
   where
     go : (p : ColourStep) → PacketIn levels b p → ((at' i' : ℕ) → at' ≤ length b → Sound b 768 (packets levels b n at' i'))
         → Sound b 768 (after_packet levels b p (λ at' i'. packets levels b n at' i'))
-    go (Fault e) k ih = sound_fault b 768 e
-    go (Colours from to len next) k ih =
-        sound_then b 768 to (map (level levels) (take len (drop from b))) (packets levels b n (from + len) next)
-        (omega (arith, length-map (take len (drop from b)) (level levels), length-take-le len (drop from b) (simp length-drop (omega (arith, k.0))), k.1))
-        (λ j. level_bytes levels (take len (drop from b)) k.3 (bytes_take len (drop from b) (bytes_drop from b j))) (ih (from + len) next k.0)
+    go (Err e) k ih = sound_fault b 768 e
+    go (Ok p) k ih =
+        let v = take p.len (drop p.from b) in
+        sound_then b 768 p.to (map (level levels) v) (packets levels b n (p.from + p.len) p.next)
+        (omega (arith, length-map v (level levels), length-take-le p.len (drop p.from b) (simp length-drop (omega (arith, k.0))), k.1))
+        (λ j. level_bytes levels v k.3 (bytes_take p.len (drop p.from b) (bytes_drop p.from b j))) (ih (p.from + p.len) p.next k.0)
 
 pub colour_sound : (levels : Levels) (b : List ℕ) → Sound b 768 (colour levels b)
 unfolding colour

@@ -1,29 +1,27 @@
 -- Laws of the definitions in specs/ that the proofs of the readers cite.
 use mathlib.Core.Path.{◌≡◌, ap, ap₂, ◌∙◌, sym, refl}
 use mathlib.Core.List.{List, ◌++◌, append-nil}
-use mathlib.Core.Bool.{Bool, true, false, ◌||◌, cond}
+use mathlib.Core.Logic.{◌⊎◌, inl, inr}
+use mathlib.Core.Bool.{true, false}
 use Prim.Native.Nat.{ℕ, suc, ◌≤◌, ◌<◌, ◌+◌, ◌-◌}
 use native.Mathlib.Omega.{arith}
 use borrow.Author.Tests.{ne_eqb}
-use lib.Dec.{eqb}
 use lib.ListN.{length, take, take-append-drop}
+use lib.Seq.{length-take-le}
+use Rattle.std.specs.Prelude.{Result, Ok, Err}
 use Rattle.words.specs.Words.{part}
-use Rattle.words.proofs.Laws.{span_length}
 use Rattle.words.specs.Writes.{Write}
 use Rattle.answer.specs.declared.Refusal.{Refusal}
+use Rattle.answer.specs.declared.Refused.{Refused}
+use Rattle.answer.proofs.Laws.{placed_ok}
 use Rattle.answer.specs.declared.Refusal.TheVariants.{ShortSlice, BadSize}
-use Rattle.walk.specs.declared.Verdict.{Verdict}
-use Rattle.walk.specs.declared.Verdict.TheVariants as verdict
-use Rattle.answer.specs.declared.Answer.{Answer}
-use Rattle.answer.specs.declared.Answer.TheVariants.{Done, Refused}
 use Rattle.format.specs.Limits.{size_fits}
-use Rattle.walk.specs.Walk.{wrote}
+use Rattle.walk.specs.Walk.{wrote, Verdict}
 use Rattle.walk.specs.declared.Pass.{Pass}
 use Rattle.walk.proofs.Laws.{wrote_none, wrote_append}
+use Rattle.chunks.specs.declared.Chunk.{Chunk}
 use Rattle.chunks.specs.declared.FrameHeader.{FrameHeader}
-use Rattle.chunks.specs.declared.FrameHeader.TheVariants as whole
-use Rattle.chunks.specs.declared.Header.TheVariants.{Fault, Chunk}
-use Rattle.chunks.specs.Headers.{header_at, frame_header}
+use Rattle.chunks.specs.Headers.{Header, Whole, header_at, frame_header, chunk_to}
 use Rattle.chunks.specs.Spans.{Spans, sub_spans}
 use Rattle.chunks.proofs.Headers.{frame_in}
 use Rattle.chunks.proofs.Spans.{subs_none, subs_step, subs_by}
@@ -33,32 +31,49 @@ use Rattle.format.specs.Limits.{area}
 use Rattle.format.specs.declared.Size.{Size}
 use Rattle.state.specs.State.{State, state, enough, front, refilled}
 use Rattle.state.specs.Outcome.{lent_pair, leaves, refuse}
-use Rattle.answer.specs.Answer.{told}
+use Rattle.answer.specs.Answer.{told, refused_at, placed, Answer}
 use Rattle.read_frame.specs.Packets.{packets_in, packet_bytes}
 use Rattle.read_frame.specs.Reading.{played, settled, read_by, read_frame}
+
+-- an answer that gives nothing on
+abbrev done_or : {T : Type 0} → Result T Refused → Answer
+done_or (Ok x) = Ok tt
+done_or (Err r) = Err r
 
 module _ (z : Size) (b : List ℕ) where
   abbrev all : Spans → FrameWalk
   all s = acted z b s.met s.answer
 
-  pub chunks_none : (n at : ℕ) → n ≤ 0 → sub_chunks z b n at ≡ stop Done
+  pub chunks_none : (n at : ℕ) → n ≤ 0 → sub_chunks z b n at ≡ stop (Ok tt)
   unfolding sub_chunks
   chunks_none n at i = ap all (subs_none b n at i)
 
-  pub chunks_stop : (n at : ℕ) → 0 < n → (e : Refusal) → header_at b at ≡ Fault e → sub_chunks z b n at ≡ stop (Refused e at)
+  pub chunks_stop : (n at : ℕ) → 0 < n → (e : Refusal) → header_at b at ≡ Err e → sub_chunks z b n at ≡ stop (Err (refused_at e at))
   unfolding sub_chunks
-  chunks_stop n at i e q = ap all (subs_step b n at i (Fault e) q)
+  chunks_stop n at i e q = ap all (subs_step b n at i (Err e) q)
 
-  pub chunks_more : (n at : ℕ) → 0 < n → (kind end : ℕ) → header_at b at ≡ Chunk kind end
+  pub chunks_more : (n at : ℕ) → 0 < n → (kind end : ℕ) → header_at b at ≡ Ok (chunk_to kind end)
       → sub_chunks z b n at ≡ chunk_then at (sub_chunk z kind (part b (at + 6) end)) (sub_chunks z b (n - 1) end)
   unfolding sub_chunks
-  chunks_more n at i kind end q = ap all (subs_step b n at i (Chunk kind end) q)
+  chunks_more n at i kind end q = ap all (subs_step b n at i (Ok (chunk_to kind end)) q)
+
+  -- the walk by what was said of the first sub-chunk's header
+  abbrev from_header : ℕ → ℕ → Result Chunk Refused → FrameWalk
+  from_header n at (Err r) = stop (Err r)
+  from_header n at (Ok c) = chunk_then at (sub_chunk z c.kind (part b (at + 6) c.end)) (sub_chunks z b (n - 1) c.end)
+
+  pub chunks_as : (n at : ℕ) → 0 < n → (x : Result Chunk Refused) → placed at (header_at b at) ≡ x → sub_chunks z b n at ≡ from_header n at x
+  chunks_as n at i x q = go (header_at b at) refl ∙ ap (from_header n at) q
+    where
+      go : (h : Header) → header_at b at ≡ h → sub_chunks z b n at ≡ from_header n at (placed at h)
+      go (Err e) r = chunks_stop n at i e r
+      go (Ok c) r = chunks_more n at i c.kind c.end r
 
   -- what holds of no sub-chunk, of a fault, and of a sub-chunk and then the rest
   module _ (C : ℕ → ℕ → FrameWalk → Type 0)
-      (none : (at : ℕ) → C 0 at (stop Done))
-      (fault : (n at : ℕ) (e : Refusal) → header_at b at ≡ Fault e → C (suc n) at (stop (Refused e at)))
-      (more : (n at kind end : ℕ) → header_at b at ≡ Chunk kind end → C n end (sub_chunks z b n end)
+      (none : (at : ℕ) → C 0 at (stop (Ok tt)))
+      (fault : (n at : ℕ) (e : Refusal) → header_at b at ≡ Err e → C (suc n) at (stop (Err (refused_at e at))))
+      (more : (n at kind end : ℕ) → header_at b at ≡ Ok (chunk_to kind end) → C n end (sub_chunks z b n end)
       → C (suc n) at (chunk_then at (sub_chunk z kind (part b (at + 6) end)) (sub_chunks z b n end))) where
     pub chunks_by : (n at : ℕ) → C n at (sub_chunks z b n at)
     unfolding sub_chunks
@@ -87,56 +102,64 @@ seen_stop p a s = ap₂ (λ (d e : List ℕ). (a, state d e)) (wrote_none p s.pi
 abbrev pub chunk_seen : Pass → ChunkWalk → State → State
 chunk_seen p c s = state (wrote p c.pixels s.picture) (wrote p c.colours s.palette)
 
--- a sub-chunk that ends, and then the rest; one at fault
+-- a sub-chunk that came out so, and then the rest
 module _ (p : Pass) (at : ℕ) (c : ChunkWalk) (f : FrameWalk) (s : State) where
-  seen_on : (end : ℕ) → c.verdict ≡ verdict.Ends end → seen p (chunk_then at c f) s ≡ seen p f (chunk_seen p c s)
+  seen_as : (v : Verdict) → c.verdict ≡ v → seen p (chunk_then at c f) s
+      ≡ (
+        answer_after at v f.answer,
+        state (wrote p (c.pixels ++ writes_after v f.pixels) s.picture) (wrote p (c.colours ++ writes_after v f.colours) s.palette),
+      )
   unfolding seen
-  seen_on end v =
+  seen_as v e =
       ap (λ (x : Verdict). (
         answer_after at x f.answer,
         state (wrote p (c.pixels ++ writes_after x f.pixels) s.picture)
             (wrote p (c.colours ++ writes_after x f.colours) s.palette),
-      )) v
+      )) e
+
+  -- it ends: the rest, over what it left
+  seen_on : (end : ℕ) → c.verdict ≡ Ok end → seen p (chunk_then at c f) s ≡ seen p f (chunk_seen p c s)
+  unfolding seen
+  seen_on end v = seen_as (Ok end) v
       ∙ ap₂ (λ (d e : List ℕ). (f.answer, state d e)) (wrote_append p c.pixels f.pixels s.picture) (wrote_append p c.colours f.colours s.palette)
 
-  seen_off : (e : Refusal) → c.verdict ≡ verdict.Fault e → seen p (chunk_then at c f) s ≡ (Refused e at, chunk_seen p c s)
-  unfolding seen
-  seen_off e v =
-      ap (λ (x : Verdict). (
-        answer_after at x f.answer,
-        state (wrote p (c.pixels ++ writes_after x f.pixels) s.picture)
-            (wrote p (c.colours ++ writes_after x f.colours) s.palette),
-      )) v
-      ∙ ap₂ (λ (d e' : List Write). (Refused e at, state (wrote p d s.picture) (wrote p e' s.palette))) (append-nil c.pixels) (append-nil c.colours)
+  -- it is at fault: what it left, and the fault at its header
+  seen_off : (v : Verdict) → c.verdict ≡ v → (r : Refused) → placed at v ≡ Err r → seen p (chunk_then at c f) s ≡ (Err r, chunk_seen p c s)
+  seen_off (Ok end) e r q = cc
+  seen_off (Err d) e r q = seen_as (Err d) e
+      ∙ ap₂ (λ (x y : List Write). (Err (refused_at d at), state (wrote p x s.picture) (wrote p y s.palette))) (append-nil c.pixels) (append-nil c.colours)
+      ∙ ap (λ (x : Result ℕ Refused). (done_or x, chunk_seen p c s)) q
 
+-- what a pass over sub-chunks gives by the first one's header
 module _ (z : Size) (b : List ℕ) (p : Pass) (n at : ℕ) (s : State) where
-  pub seen_none : n ≤ 0 → seen p (sub_chunks z b n at) s ≡ (Done, s)
-  seen_none i = ap (λ (f : FrameWalk). seen p f s) (chunks_none z b n at i) ∙ seen_stop p Done s
+  pub seen_none : n ≤ 0 → seen p (sub_chunks z b n at) s ≡ (Ok tt, s)
+  seen_none i = ap (λ (f : FrameWalk). seen p f s) (chunks_none z b n at i) ∙ seen_stop p (Ok tt) s
 
   module _ (i : 0 < n) where
-    pub seen_fault : (e : Refusal) → header_at b at ≡ Fault e → seen p (sub_chunks z b n at) s ≡ (Refused e at, s)
-    seen_fault e q = ap (λ (f : FrameWalk). seen p f s) (chunks_stop z b n at i e q) ∙ seen_stop p (Refused e at) s
+    pub seen_fault : (r : Refused) → placed at (header_at b at) ≡ Err r → seen p (sub_chunks z b n at) s ≡ (Err r, s)
+    seen_fault r q = ap (λ (f : FrameWalk). seen p f s) (chunks_as z b n at i _ q) ∙ seen_stop p (Err r) s
 
     -- a sub-chunk over which a pass left this verdict and this state
-    module _ (kind end : ℕ) (q : header_at b at ≡ Chunk kind end) (t : State) (is : t ≡ chunk_seen p (sub_chunk z kind (part b (at + 6) end)) s) where
-      pub seen_good : (d : ℕ) → verdict.Ends d ≡ (sub_chunk z kind (part b (at + 6) end)).verdict → seen p (sub_chunks z b n at) s
-          ≡ seen p (sub_chunks z b (n - 1) end) t
-      seen_good d v =
-          ap (λ (f : FrameWalk). seen p f s) (chunks_more z b n at i kind end q)
-          ∙ seen_on p at (sub_chunk z kind (part b (at + 6) end)) (sub_chunks z b (n - 1) end) s d (sym v)
-          ∙ ap (seen p (sub_chunks z b (n - 1) end)) (sym is)
+    module _ (c : Chunk) (q : placed at (header_at b at) ≡ Ok c) (t : State)
+        (is : t ≡ chunk_seen p (sub_chunk z c.kind (part b (at + 6) c.end)) s)
+        (v : Verdict) (out : v ≡ (sub_chunk z c.kind (part b (at + 6) c.end)).verdict) where
+      pub seen_good : (d : ℕ) → placed at v ≡ Ok d → (m : ℕ) → n - 1 ≡ m → seen p (sub_chunks z b n at) s ≡ seen p (sub_chunks z b m c.end) t
+      seen_good d e m less =
+          ap (λ (f : FrameWalk). seen p f s) (chunks_as z b n at i _ q)
+          ∙ seen_on p at (sub_chunk z c.kind (part b (at + 6) c.end)) (sub_chunks z b (n - 1) c.end) s d (sym out ∙ placed_ok at d e)
+          ∙ ap₂ (λ (k : ℕ) (x : State). seen p (sub_chunks z b k c.end) x) less (sym is)
 
-      pub seen_bad : (e : Refusal) → verdict.Fault e ≡ (sub_chunk z kind (part b (at + 6) end)).verdict → seen p (sub_chunks z b n at) s ≡ (Refused e at, t)
-      seen_bad e v =
-          ap (λ (f : FrameWalk). seen p f s) (chunks_more z b n at i kind end q)
-          ∙ seen_off p at (sub_chunk z kind (part b (at + 6) end)) (sub_chunks z b (n - 1) end) s e (sym v)
-          ∙ ap (λ (x : State). (Refused e at, x)) (sym is)
+      pub seen_bad : (r : Refused) → placed at v ≡ Err r → seen p (sub_chunks z b n at) s ≡ (Err r, t)
+      seen_bad r e =
+          ap (λ (f : FrameWalk). seen p f s) (chunks_as z b n at i _ q)
+          ∙ seen_off p at (sub_chunk z c.kind (part b (at + 6) c.end)) (sub_chunks z b (n - 1) c.end) s v (sym out) r e
+          ∙ ap (λ (x : State). (Err r, x)) (sym is)
 
 -- a wet pass over a walk that is done has played it, and one over a walk that is refused doesn't matter: the state is put back
-pub settled_done : (f : FrameWalk) (a : Answer) (s : State) → a ≡ Done → settled f a s ≡ played f s
+pub settled_done : (f : FrameWalk) (a : Answer) (s : State) → a ≡ Ok tt → settled f a s ≡ played f s
 settled_done f a s e = ap (λ (x : Answer). settled f x s) e
 
-pub settled_refused : (f : FrameWalk) (a : Answer) (s : State) (e : Refusal) (place : ℕ) → a ≡ Refused e place → settled f a s ≡ s
+pub settled_refused : (f : FrameWalk) (a : Answer) (s : State) (e : Refusal) (place : ℕ) → a ≡ Err (refused_at e place) → settled f a s ≡ s
 settled_refused f a s e place q = ap (λ (x : Answer). settled f x s) q
 
 -- bytes in packets
@@ -150,18 +173,24 @@ module _ (b : List ℕ) (n at : ℕ) where
   packets_none i = ap (λ (s : Spans). packet_bytes s.met) (subs_none b n at i)
 
   module _ (i : 0 < n) where
-    pub packets_fault : (e : Refusal) → header_at b at ≡ Fault e → in_all ≡ 0
+    pub packets_fault : (e : Refusal) → header_at b at ≡ Err e → in_all ≡ 0
     unfolding packet_bytes
-    packets_fault e q = ap (λ (s : Spans). packet_bytes s.met) (subs_step b n at i (Fault e) q)
+    packets_fault e q = ap (λ (s : Spans). packet_bytes s.met) (subs_step b n at i (Err e) q)
 
-    pub packets_more : (kind end : ℕ) → header_at b at ≡ Chunk kind end → in_all ≡ packets_in kind (end - at) + packet_bytes (sub_spans b (n - 1) end).met
+    pub packets_more : (c : Chunk) → header_at b at ≡ Ok c → (m : ℕ) → n - 1 ≡ m
+        → in_all ≡ packets_in c.kind (c.end - at) + packet_bytes (sub_spans b m c.end).met
     unfolding packet_bytes
-    packets_more kind end q = ap (λ (s : Spans). packet_bytes s.met) (subs_step b n at i (Chunk kind end) q)
+    packets_more c q m less =
+        ap (λ (s : Spans). packet_bytes s.met) (subs_step b n at i (Ok c) q)
+        ∙ ap (λ (k : ℕ). packets_in c.kind (c.end - at) + packet_bytes (sub_spans b k c.end).met) less
 
 -- a sub-chunk of packets, and another
-pub packets_of : (kind bytes : ℕ) → (eqb kind 7 || (eqb kind 12 || eqb kind 15)) ≡ true → bytes ≡ packets_in kind bytes
+pub packets_of : (kind bytes : ℕ) → (kind ≡ 7) ⊎ (((kind ≡ 7 → ⊥) × (kind ≡ 12)) ⊎ ((kind ≡ 7 → ⊥) × (kind ≡ 12 → ⊥) × (kind ≡ 15)))
+    → bytes ≡ packets_in kind bytes
 unfolding packets_in
-packets_of kind bytes e = sym (ap (λ (t : Bool). cond t bytes 0) e)
+packets_of kind bytes (inl e) = ap (λ (k : ℕ). packets_in k bytes) (sym e)
+packets_of kind bytes (inr (inl e)) = ap (λ (k : ℕ). packets_in k bytes) (sym e.1)
+packets_of kind bytes (inr (inr e)) = ap (λ (k : ℕ). packets_in k bytes) (sym e.2)
 
 pub packets_not : (kind bytes : ℕ) → (kind ≡ 7 → ⊥) → (kind ≡ 12 → ⊥) → (kind ≡ 15 → ⊥) → 0 ≡ packets_in kind bytes
 unfolding packets_in
@@ -169,17 +198,27 @@ packets_not kind bytes p q r = simp (ne_eqb kind 7 p, ne_eqb kind 12 q, ne_eqb k
 
 -- the whole frame
 
-pub frame_as : (z : Size) (b : List ℕ) (f : FrameHeader) → frame_header b ≡ f → frame z b ≡ after_frame_header z b f
+pub frame_as : (z : Size) (b : List ℕ) (f : Whole) → frame_header b ≡ f → frame z b ≡ after_frame_header z b f
 unfolding frame
 frame_as z b f e = ap (after_frame_header z b) e
 
--- where its header is right: the part that is handed on, which begins at 0
-module _ (z : Size) (b : List ℕ) (count size : ℕ) (is : frame_header b ≡ whole.Frame count size) where
-  pub frame_part : frame z b ≡ sub_chunks z (take (size - 0) b) count 16
-  frame_part = let n : size ≡ size - 0 = omega arith in frame_as z b (whole.Frame count size) is ∙ ap (λ (k : ℕ). sub_chunks z (take k b) count 16) n
+-- the walk by what was said of the frame's header
+abbrev pub from_frame_header : Size → List ℕ → Result FrameHeader Refused → FrameWalk
+from_frame_header z b (Err r) = stop (Err r)
+from_frame_header z b (Ok h) = sub_chunks z (take h.size b) h.count 16
 
-  pub part_long : 16 ≤ length (take (size - 0) b)
-  part_long = let i = frame_in b (whole.Frame count size) is in omega (arith, span_length b 0 size size i.1 (omega arith), i.0)
+pub frame_told : (z : Size) (b : List ℕ) (x : Result FrameHeader Refused) → placed 0 (frame_header b) ≡ x → frame z b ≡ from_frame_header z b x
+frame_told z b x q = frame_as z b (frame_header b) refl ∙ go (frame_header b) ∙ ap (from_frame_header z b) q
+  where
+    go : (f : Whole) → after_frame_header z b f ≡ from_frame_header z b (placed 0 f)
+    go (Err e) = refl
+    go (Ok h) = refl
+
+-- where its header is right: the part that is handed on
+pub part_in : (b : List ℕ) (h : FrameHeader) → placed 0 (frame_header b) ≡ Ok h → (h.size ≤ length b) × (16 ≤ length (take h.size b))
+part_in b h q =
+    let i = frame_in b (Ok h) (placed_ok 0 h q) in
+    (i.1, omega (arith, length-take-le h.size b i.1, i.0))
 
 -- reading
 
@@ -200,6 +239,6 @@ module _ (b : List ℕ) (z : Size) (lent : State) where
 -- what a pair holds, of which the front was played
 pub read_settled : (n : ℕ) (f : FrameWalk) (a : Answer) (lent : State)
     → leaves (told a) (lent_pair (refilled n (settled f a (front n lent)) lent)) ≡ read_by n f a lent
-read_settled n f Done lent = refl
-read_settled n f (Refused e place) lent =
-    ap₂ (λ (d k : List ℕ). leaves (told (Refused e place)) (lent_pair (state d k))) (take-append-drop n lent.picture) (take-append-drop 768 lent.palette)
+read_settled n f (Ok u) lent = refl
+read_settled n f (Err r) lent =
+    ap₂ (λ (d k : List ℕ). leaves (told (Err r)) (lent_pair (state d k))) (take-append-drop n lent.picture) (take-append-drop 768 lent.palette)

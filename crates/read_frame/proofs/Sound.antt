@@ -4,6 +4,7 @@ use mathlib.Core.Path.{◌≡◌, sym, ◌∙◌, subst}
 use mathlib.Core.List.{List}
 use Prim.Native.Nat.{ℕ, ◌+◌, ◌-◌, ◌≤◌}
 use lib.ListN.{length, take, drop}
+use Rattle.std.specs.Prelude.{Ok, Err}
 use Rattle.words.specs.Words.{part}
 use Rattle.words.specs.Writes.{Write, applied}
 use Rattle.words.proofs.Laws.{Inside, inside_append, length_applied, bytes_take, bytes_drop}
@@ -11,22 +12,19 @@ use Rattle.words.proofs.Bytewise.{bytewise_append}
 use Rattle.format.specs.Limits.{area}
 use Rattle.format.specs.declared.Size.{Size}
 use Rattle.state.specs.State.{State, Exact}
-use Rattle.walk.specs.declared.Verdict.{Verdict}
-use Rattle.walk.specs.declared.Verdict.TheVariants as verdict
-use Rattle.chunks.specs.Headers.{frame_header}
-use Rattle.chunks.specs.declared.FrameHeader.{FrameHeader}
-use Rattle.chunks.specs.declared.FrameHeader.TheVariants as whole
+use Rattle.chunks.specs.Headers.{Whole, frame_header}
 use Rattle.read_chunk.specs.Chunk.{sub_chunk}
 use Rattle.read_frame.specs.Frame.{FrameWalk, writes_after, sub_chunks, after_frame_header, frame}
 use Rattle.read_frame.specs.Reading.{played}
 use Rattle.read_frame.proofs.Laws.{chunks_by}
 use Rattle.read_chunk.proofs.Sound.{SoundWrites, no_writes, chunk_sound}
+use Rattle.walk.specs.Walk.{Verdict}
 
 module _ (z : Size) (wide : 1 ≤ z.width) where
   -- what follows a sub-chunk: all of it, or nothing
   sound_after : (b : List ℕ) (v : Verdict) (ps cs : List Write) → SoundWrites z b ps cs → SoundWrites z b (writes_after v ps) (writes_after v cs)
-  sound_after b (verdict.Ends end) ps cs s = s
-  sound_after b (verdict.Fault e) ps cs s = no_writes z b
+  sound_after b (Ok end) ps cs s = s
+  sound_after b (Err e) ps cs s = no_writes z b
 
   chunks_sound : (b : List ℕ) (n at : ℕ) → SoundWrites z b (sub_chunks z b n at).pixels (sub_chunks z b n at).colours
   chunks_sound b n at =
@@ -51,11 +49,11 @@ module _ (z : Size) (wide : 1 ≤ z.width) where
   unfolding frame
   frame_sound b = go (frame_header b)
     where
-      go : (x : FrameHeader) → SoundWrites z b (after_frame_header z b x).pixels (after_frame_header z b x).colours
-      go (whole.Fault e) = no_writes z b
-      go (whole.Frame count size) =
-          let s = chunks_sound (take size b) count 16 in
-          record { in_picture = s.in_picture; in_palette = s.in_palette; of_bytes = λ i. s.of_bytes (bytes_take size b i) }
+      go : (x : Whole) → SoundWrites z b (after_frame_header z b x).pixels (after_frame_header z b x).colours
+      go (Err e) = no_writes z b
+      go (Ok h) =
+          let s = chunks_sound (take h.size b) h.count 16 in
+          record { in_picture = s.in_picture; in_palette = s.in_palette; of_bytes = λ i. s.of_bytes (bytes_take h.size b i) }
 
 -- what a frame makes of a state
 

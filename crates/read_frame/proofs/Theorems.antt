@@ -10,21 +10,16 @@ use Prim.Native.Nat.{ℕ, ◌≤◌, ◌+◌}
 use native.Mathlib.Omega.{arith}
 use lib.ListN.{length, take, drop, length-append, length-take, length-drop}
 use lib.Seq.{length-take-le, drop_at}
+use Rattle.std.specs.Prelude.{Ok, Err}
 use Rattle.words.specs.Words.{part}
 use Rattle.words.specs.Writes.{Write, applied}
 use Rattle.words.proofs.Laws.{Inside, length_applied}
-use Rattle.answer.specs.Answer.{Said, done, refused}
+use Rattle.answer.specs.Answer.{Said, done, refused, refused_at, Answer}
 use Rattle.format.specs.Limits.{size_fits}
 use Rattle.answer.specs.declared.Refusal.{Refusal}
 use Rattle.answer.specs.declared.Refusal.TheVariants.{ShortSlice, BadSize}
-use Rattle.walk.specs.declared.Verdict.{Verdict}
-use Rattle.walk.specs.declared.Verdict.TheVariants as verdict
-use Rattle.answer.specs.declared.Answer.{Answer}
-use Rattle.answer.specs.declared.Answer.TheVariants.{Done, Refused}
 use Rattle.format.proofs.Laws.{size_in_lem}
-use Rattle.chunks.specs.Headers.{frame_header}
-use Rattle.chunks.specs.declared.FrameHeader.{FrameHeader}
-use Rattle.chunks.specs.declared.FrameHeader.TheVariants as whole
+use Rattle.chunks.specs.Headers.{Whole, frame_header}
 use Rattle.chunks.proofs.Headers.{header_in_lem, FrameIn, frame_in}
 use Rattle.read_chunk.specs.Chunk.{sub_chunk}
 use Rattle.read_frame.specs.Frame.{FrameWalk, answer_after, sub_chunks, after_frame_header, frame}
@@ -40,6 +35,7 @@ use Rattle.state.specs.Outcome.{Outcome, lent_pair, refuse}
 use Rattle.state.proofs.Laws.{enough_in}
 use Rattle.read_frame.specs.Reading.{read_by, read_frame}
 use Rattle.read_frame.proofs.Sound.{frame_sound}
+use Rattle.walk.specs.Walk.{Verdict}
 
 -- 1. the answer
 
@@ -52,8 +48,8 @@ module _ (b : List ℕ) (z : Size) (s t : State) (es : enough (area z) s ≡ tru
           → (require c else refuse BadSize 0 (lent_pair s) then read_by (area z) (frame z b) a s).said
           ≡ (require c else refuse BadSize 0 (lent_pair t) then read_by (area z) (frame z b) a t).said
       go false a = refl
-      go true Done = refl
-      go true (Refused e at) = refl
+      go true (Ok u) = refl
+      go true (Err r) = refl
 
 -- 2. what changes
 
@@ -89,19 +85,19 @@ module _ (b : List ℕ) (z : Size) (lent : State) where
   pub pair_kept : KeptPair b (area z) lent (read_frame b z lent).memory.first
   unfolding read_frame
   pair_kept =
-      by_test (λ c. Ok (require c else refuse BadSize 0 (lent_pair lent) then require enough (area z) lent else refuse ShortSlice 0 (lent_pair lent)
+      by_test (λ c. Fine (require c else refuse BadSize 0 (lent_pair lent) then require enough (area z) lent else refuse ShortSlice 0 (lent_pair lent)
       then read_by (area z) (frame z b) (frame z b).answer lent))
       (size_fits z)
-      (λ i. by_test (λ d. Ok (require d else refuse ShortSlice 0 (lent_pair lent) then read_by (area z) (frame z b) (frame z b).answer lent))
+      (λ i. by_test (λ d. Fine (require d else refuse ShortSlice 0 (lent_pair lent) then read_by (area z) (frame z b) (frame z b).answer lent))
       (enough (area z) lent)
       (λ e. go i e (frame z b).answer) (λ e. same_pair)) (λ i. same_pair)
     where
-      Ok : Outcome → Type 0
-      Ok o = KeptPair b (area z) lent o.memory.first
+      Fine : Outcome → Type 0
+      Fine o = KeptPair b (area z) lent o.memory.first
 
-      go : size_fits z ≡ true → enough (area z) lent ≡ true → (a : Answer) → Ok (read_by (area z) (frame z b) a lent)
-      go i e (Refused r at) = same_pair
-      go i e Done =
+      go : size_fits z ≡ true → enough (area z) lent ≡ true → (a : Answer) → Fine (read_by (area z) (frame z b) a lent)
+      go i e (Err r) = same_pair
+      go i e (Ok u) =
           let s = frame_sound z (size_in_lem z i).some_wide b in
           let n = enough_in (area z) lent e in
           record {
@@ -117,12 +113,12 @@ module _ (b : List ℕ) (z : Size) (lent : State) where
 
 -- the place of an answer is not past b
 abbrev PlaceIn : List ℕ → Answer → Type 0
-PlaceIn b Done = Unit {0}
-PlaceIn b (Refused e at) = at ≤ length b
+PlaceIn b (Ok u) = Unit {0}
+PlaceIn b (Err r) = r.1 ≤ length b
 
 place_answer_after : (b : List ℕ) (at : ℕ) (v : Verdict) (a : Answer) → at ≤ length b → PlaceIn b a → PlaceIn b (answer_after at v a)
-place_answer_after b at (verdict.Ends end) a h i = i
-place_answer_after b at (verdict.Fault e) a h i = h
+place_answer_after b at (Ok end) a h i = i
+place_answer_after b at (Err e) a h i = h
 
 chunks_place : (z : Size) (b : List ℕ) (n at : ℕ) → at ≤ length b → PlaceIn b (sub_chunks z b n at).answer
 chunks_place z b n at i =
@@ -133,19 +129,20 @@ chunks_place z b n at i =
     place_answer_after b k (sub_chunk z kind (part b (k + 6) end)).verdict (sub_chunks z b m end).answer j (rest (header_in_lem b k _ q).1)) n at i
 
 place_front : (b : List ℕ) (n : ℕ) (a : Answer) → PlaceIn (take n b) a → PlaceIn b a
-place_front b n Done i = tt
-place_front b n (Refused e at) i = omega (arith, length-take n b)
+place_front b n (Ok u) i = tt
+place_front b n (Err r) i = omega (arith, length-take n b)
 
 frame_place : (z : Size) (b : List ℕ) → PlaceIn b (frame z b).answer
 unfolding frame
 frame_place z b = go (frame_header b) (frame_in b _ refl)
   where
-    go : (x : FrameHeader) → FrameIn b x → PlaceIn b (after_frame_header z b x).answer
-    go (whole.Fault e) i = omega arith
-    go (whole.Frame count size) i =
-        place_front b size (sub_chunks z (take size b) count 16).answer (chunks_place z (take size b) count 16 (omega (arith, length-take-le size b i.1, i.0)))
+    go : (x : Whole) → FrameIn b x → PlaceIn b (after_frame_header z b x).answer
+    go (Err e) i = omega arith
+    go (Ok h) i =
+        let l = length-take-le h.size b i.1 in
+        place_front b h.size (sub_chunks z (take h.size b) h.count 16).answer (chunks_place z (take h.size b) h.count 16 (omega (arith, l, i.0)))
 
-pub refused_within : (z : Size) (b : List ℕ) (e : Refusal) (place : ℕ) → (frame z b).answer ≡ Refused e place → place ≤ length b
+pub refused_within : (z : Size) (b : List ℕ) (e : Refusal) (place : ℕ) → (frame z b).answer ≡ Err (refused_at e place) → place ≤ length b
 refused_within z b e place a = subst (PlaceIn b) a (frame_place z b)
 
 -- a refusal's place is not past b
@@ -163,5 +160,5 @@ module _ (b : List ℕ) (z : Size) (lent : State) where
           (frame z b) a lent).said
       go false d a i = omega arith
       go true false a i = omega arith
-      go true true Done i = tt
-      go true true (Refused r at) i = i
+      go true true (Ok u) i = tt
+      go true true (Err r) i = i

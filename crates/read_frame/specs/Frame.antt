@@ -1,17 +1,13 @@
 -- A frame (document 01, "Frames, chunks and rows"): what its sub-chunks do, in file order.
-use Rattle.std.specs.Prelude.{ℕ, ◌+◌, List, [], ◌∷◌, ◌++◌, take}
+use Rattle.std.specs.Prelude.{ℕ, ◌+◌, List, [], ◌∷◌, ◌++◌, take, Ok, Err}
 use Rattle.words.specs.Words.{part}
 use Rattle.words.specs.Writes.{Write}
-use Rattle.walk.specs.declared.Verdict.{Verdict}
-use Rattle.walk.specs.declared.Verdict.TheVariants as verdict
-use Rattle.answer.specs.declared.Answer.{Answer}
-use Rattle.answer.specs.declared.Answer.TheVariants.{Refused}
 use Rattle.format.specs.declared.Size.{Size}
-use Rattle.chunks.specs.declared.FrameHeader.{FrameHeader}
-use Rattle.chunks.specs.declared.FrameHeader.TheVariants as whole
-use Rattle.chunks.specs.Headers.{frame_header}
+use Rattle.chunks.specs.Headers.{Whole, frame_header}
 use Rattle.chunks.specs.Spans.{Span, sub_spans}
 use Rattle.read_chunk.specs.Chunk.{ChunkWalk, sub_chunk}
+use Rattle.answer.specs.Answer.{refused_at, Answer}
+use Rattle.walk.specs.Walk.{Verdict}
 
 -- What a frame says: the writes met before the first fault, in order, and the answer to it.
 pub record FrameWalk : Type 0 where
@@ -24,13 +20,13 @@ stop a = record { pixels = []; colours = []; answer = a }
 
 -- how the frame is answered after a sub-chunk at offset at: "the offset .. of the chunk header at fault"
 abbrev pub answer_after : ℕ → Verdict → Answer → Answer
-answer_after at (verdict.Ends end) a = a
-answer_after at (verdict.Fault e) a = Refused e at
+answer_after at (Ok end) a = a
+answer_after at (Err e) a = Err (refused_at e at)
 
 -- the writes of what follows a sub-chunk that came out so: a fault ends the walk
 abbrev pub writes_after : Verdict → List Write → List Write
-writes_after (verdict.Ends end) ws = ws
-writes_after (verdict.Fault e) ws = []
+writes_after (Ok end) ws = ws
+writes_after (Err e) ws = []
 
 -- a sub-chunk at offset at, and then the rest of the frame: "Sub-chunks act in file order"
 abbrev pub chunk_then : ℕ → ChunkWalk → FrameWalk → FrameWalk
@@ -54,9 +50,9 @@ module _ (z : Size) (b : List ℕ) where
   sub_chunks count at = acted (sub_spans b count at).met (sub_spans b count at).answer
 
 -- "any fault of .. frame header in a single-frame call" has place 0; "Bytes .. after a single frame's size, are ignored"
-abbrev pub after_frame_header : Size → List ℕ → FrameHeader → FrameWalk
-after_frame_header z b (whole.Fault e) = stop (Refused e 0)
-after_frame_header z b (whole.Frame count size) = sub_chunks z (take size b) count 16
+abbrev pub after_frame_header : Size → List ℕ → Whole → FrameWalk
+after_frame_header z b (Err e) = stop (Err (refused_at e 0))
+after_frame_header z b (Ok h) = sub_chunks z (take h.size b) h.count 16
 
 unfoldable pub frame : Size → List ℕ → FrameWalk
 unfolding frame_header sub_chunks

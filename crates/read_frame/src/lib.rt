@@ -14,8 +14,10 @@ ghost use Rattle.read_frame.specs.Frame.{sub_chunks, frame};
 ghost use Rattle.read_frame.specs.Packets.{packets_in, packet_bytes};
 ghost use Rattle.read_frame.specs.Reading.{settled, read_frame};
 
+use answer::{Refusal, Refused};
 use chunks::{CHUNK_HEADER, FRAME_HEADER};
 use format::Size;
+use walk::Pass;
 
 // The bytes in packets from which on one pass is faster than two (docs/BENCH.md).
 const MANY: usize = 4096;
@@ -27,39 +29,22 @@ fn walk_chunks(
     b: &[u8],
     size: Size,
     count: usize,
-    pass: walk::Pass,
-) -> answer::Answer
+    pass: Pass,
+) -> Result<(), Refused>
     requires { (16 ≤ length b.now) × Sized size.width size.height × Room pass (area size) picture.old × Room pass 768 palette.old }
     ensures answer { result ≡ (sub_chunks size b.now count 16).answer }
     ensures pixels { picture.new ≡ wrote pass (sub_chunks size b.now count 16).pixels picture.old }
     ensures colours { palette.new ≡ wrote pass (sub_chunks size b.now count 16).colours palette.old }
 {
     let mut at = FRAME_HEADER;
-    let mut left = count;
-    while left > 0 {
-        match chunks::header_at(b, at) {
-            chunks::Header::Fault(e) => {
-                return answer::Answer::Refused(e, at);
-            }
-            chunks::Header::Chunk { kind, end } => match read_chunk::walk_chunk(
-                picture,
-                palette,
-                kind,
-                &b[at + CHUNK_HEADER..end],
-                size,
-                pass,
-            ) {
-                walk::Verdict::Fault(e) => {
-                    return answer::Answer::Refused(e, at);
-                }
-                walk::Verdict::Ends(_) => {
-                    at = end;
-                }
-            },
-        }
-        left = left - 1;
+    for _ in 0..count {
+        let chunk = answer::placed(chunks::header_at(b, at), at)?;
+        let body = &b[at + CHUNK_HEADER..chunk.end];
+        let walked = read_chunk::walk_chunk(picture, palette, chunk.kind, body, size, pass);
+        answer::placed(walked, at)?;
+        at = chunk.end;
     }
-    answer::Answer::Done
+    Ok(())
 }
 
 // Walks over a whole frame.
@@ -68,52 +53,42 @@ pub fn walk_frame(
     palette: &mut [u8],
     b: &[u8],
     size: Size,
-    pass: walk::Pass,
-) -> answer::Answer
+    pass: Pass,
+) -> Result<(), Refused>
     requires { Sized size.width size.height × Room pass (area size) picture.old × Room pass 768 palette.old }
     ensures answer { result ≡ (frame size b.now).answer }
     ensures pixels { picture.new ≡ wrote pass (frame size b.now).pixels picture.old }
     ensures colours { palette.new ≡ wrote pass (frame size b.now).colours palette.old }
 {
-    match chunks::frame_header(b) {
-        chunks::FrameHeader::Fault(e) => answer::Answer::Refused(e, 0),
-        chunks::FrameHeader::Frame { count, size: whole } => walk_chunks(
-            picture,
-            palette,
-            &b[0..whole],
-            size,
-            count,
-            pass,
-        ),
-    }
+    let header = answer::placed(chunks::frame_header(b), 0)?;
+    walk_chunks(
+        picture,
+        palette,
+        &b[..header.size],
+        size,
+        header.count,
+        pass,
+    )
 }
 
 // Checks a whole frame: a dry pass, for which no picture is needed.
-pub fn check_frame(b: &[u8], size: Size) -> answer::Answer
+pub fn check_frame(b: &[u8], size: Size) -> Result<(), Refused>
     requires { Sized size.width size.height }
     ensures { result ≡ (frame size b.now).answer }
 {
     let mut picture = [0; 1];
     let mut palette = [0; 1];
-    walk_frame(
-        &mut picture[0..1],
-        &mut palette[0..1],
-        b,
-        size,
-        walk::Pass::Dry,
-    )
+    walk_frame(&mut picture[0..1], &mut palette[0..1], b, size, Pass::Dry)
 }
 
 // A sub-chunk of so many bytes: all of them, if its body is made of packets of pixels.
 fn packets_in(kind: usize, bytes: usize) -> usize
     ensures { (result ≡ packets_in kind bytes) × (result ≤ bytes) }
 {
-    match kind {
-        format::FLI_SS2 => bytes,
-        format::FLI_LC => bytes,
-        format::FLI_BRUN => bytes,
-        _ => 0,
+    if kind == format::FLI_SS2 || kind == format::FLI_LC || kind == format::FLI_BRUN {
+        return bytes;
     }
+    0
 }
 
 // How many bytes of packets count sub-chunks from offset 16 on have, by their headers.
@@ -123,18 +98,12 @@ fn packet_bytes(b: &[u8], count: usize) -> usize
 {
     let mut total = 0;
     let mut at = FRAME_HEADER;
-    let mut left = count;
-    while left > 0 {
-        match chunks::header_at(b, at) {
-            chunks::Header::Fault(_) => {
-                return total;
-            }
-            chunks::Header::Chunk { kind, end } => {
-                total += packets_in(kind, end - at);
-                at = end;
-            }
-        }
-        left = left - 1;
+    for _ in 0..count {
+        let Ok(chunk) = chunks::header_at(b, at) else {
+            return total;
+        };
+        total += packets_in(chunk.kind, chunk.end - at);
+        at = chunk.end;
     }
     total
 }
@@ -146,54 +115,25 @@ fn play_twice(
     b: &[u8],
     size: Size,
     count: usize,
-) -> answer::Answer
+) -> Result<(), Refused>
     requires { (16 ≤ length b.now) × Exact size (state picture.old palette.old) }
     ensures answer { result ≡ (sub_chunks size b.now count 16).answer }
     ensures state { state picture.new palette.new
         ≡ settled (sub_chunks size b.now count 16) result (state picture.old palette.old) }
 {
-    match walk_chunks(picture, palette, b, size, count, walk::Pass::Dry) {
-        answer::Answer::Refused(e, place) => answer::Answer::Refused(e, place),
-        answer::Answer::Done => walk_chunks(picture, palette, b, size, count, walk::Pass::Wet),
-    }
+    walk_chunks(picture, palette, b, size, count, Pass::Dry)?;
+    walk_chunks(picture, palette, b, size, count, Pass::Wet)
 }
 
-// Plays sub-chunks in one pass, over a picture and palette that are copied to a second pair first and put back if it is refused.
-fn play_over(
-    picture: &mut [u8],
-    palette: &mut [u8],
-    picture2: &mut [u8],
-    palette2: &mut [u8],
-    b: &[u8],
-    size: Size,
-    count: usize,
-) -> answer::Answer
-    requires { (16 ≤ length b.now) × Exact size (state picture.old palette.old)
-        × (length picture2.old ≡ length picture.old) × (length palette2.old ≡ length palette.old) }
-    ensures answer { result ≡ (sub_chunks size b.now count 16).answer }
-    ensures state { state picture.new palette.new
-        ≡ settled (sub_chunks size b.now count 16) result (state picture.old palette.old) }
-{
-    words::copy(picture2, picture);
-    words::copy(palette2, palette);
-    match walk_chunks(picture, palette, b, size, count, walk::Pass::Wet) {
-        answer::Answer::Done => answer::Answer::Done,
-        answer::Answer::Refused(e, place) => {
-            words::copy(picture, picture2);
-            words::copy(palette, palette2);
-            answer::Answer::Refused(e, place)
-        }
-    }
-}
-
-// Plays sub-chunks so, the second pair being the call's own.
+// Plays sub-chunks in one pass, over a picture and palette that are copied first and put back if it is refused. A function of its own,
+// with the promises of the other: the room for the copies is taken only where a frame has many packets.
 fn play_saved(
     picture: &mut [u8],
     palette: &mut [u8],
     b: &[u8],
     size: Size,
     count: usize,
-) -> answer::Answer
+) -> Result<(), Refused>
     requires { (16 ≤ length b.now) × Exact size (state picture.old palette.old) }
     ensures answer { result ≡ (sub_chunks size b.now count 16).answer }
     ensures state { state picture.new palette.new
@@ -202,33 +142,34 @@ fn play_saved(
     let mut pixels = state::picture_room();
     let mut colours = state::palette_room();
     let n = picture.len();
-    play_over(
-        picture,
-        palette,
-        &mut pixels[0..n],
-        &mut colours[0..format::PALETTE_BYTES],
-        b,
-        size,
-        count,
-    )
+    words::copy(&mut pixels[..n], picture);
+    words::copy(&mut colours, palette);
+    let answer = walk_chunks(picture, palette, b, size, count, Pass::Wet);
+    if answer.is_err() {
+        words::copy(picture, &pixels[..n]);
+        words::copy(palette, &colours);
+    }
+    answer
 }
 
 // Plays a frame, if it is accepted.
-pub fn play_frame(picture: &mut [u8], palette: &mut [u8], b: &[u8], size: Size) -> answer::Answer
+pub fn play_frame(
+    picture: &mut [u8],
+    palette: &mut [u8],
+    b: &[u8],
+    size: Size,
+) -> Result<(), Refused>
     requires { Exact size (state picture.old palette.old) }
     ensures answer { result ≡ (frame size b.now).answer }
     ensures state { state picture.new palette.new
         ≡ settled (frame size b.now) result (state picture.old palette.old) }
 {
-    match chunks::frame_header(b) {
-        chunks::FrameHeader::Fault(e) => answer::Answer::Refused(e, 0),
-        chunks::FrameHeader::Frame { count, size: whole } => {
-            if packet_bytes(&b[0..whole], count) < MANY {
-                return play_twice(picture, palette, &b[0..whole], size, count);
-            }
-            play_saved(picture, palette, &b[0..whole], size, count)
-        }
+    let header = answer::placed(chunks::frame_header(b), 0)?;
+    let whole = &b[..header.size];
+    if packet_bytes(whole, header.count) < MANY {
+        return play_twice(picture, palette, whole, size, header.count);
     }
+    play_saved(picture, palette, whole, size, header.count)
 }
 
 // Reads one frame against the picture and palette that show.
@@ -237,16 +178,16 @@ pub fn read_frame(
     size: Size,
     picture: &mut [u8],
     palette: &mut [u8],
-) -> answer::Answer
+) -> Result<(), Refused>
     ensures { leaves (told result) (lent_pair (state picture.new palette.new))
         ≡ read_frame bytes.now size (state picture.old palette.old) }
 {
     if !format::size_fits(size) {
-        return answer::Answer::Refused(answer::Refusal::BadSize, 0);
+        return Err(Refused(Refusal::BadSize, 0));
     }
     let n = size.width * size.height;
     if !state::holds(picture.len(), palette.len(), n) {
-        return answer::Answer::Refused(answer::Refusal::ShortSlice, 0);
+        return Err(Refused(Refusal::ShortSlice, 0));
     }
     play_frame(
         &mut picture[..n],

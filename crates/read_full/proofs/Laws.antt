@@ -6,6 +6,7 @@ use native.Mathlib.Omega.{arith}
 use lib.ListN.{length, take, drop, replicate, length-replicate, length-take}
 use lib.Dec.{leb}
 use borrow.Author.Tests.{le-leb, lt-leb, leb-true}
+use Rattle.std.specs.Prelude.{Ok}
 use Rattle.words.specs.Writes.{put, applied}
 use Rattle.words.specs.Words.{require◌else◌then◌}
 use Rattle.words.proofs.Laws.{bytes_take, span_back}
@@ -15,7 +16,6 @@ use Rattle.walk.proofs.Sound.{Sound, sound_ends, sound_fault, sound_then}
 use Rattle.answer.specs.declared.Refusal.TheVariants.{BodyEnds}
 use Rattle.walk.proofs.Laws.{wrote_one}
 use Rattle.walk.specs.Walk.{Walk, ends, fault, and_then, wrote}
-use Rattle.walk.specs.declared.Verdict.TheVariants.{Ends}
 use Rattle.walk.specs.declared.Pass.{Pass}
 use Rattle.walk.specs.declared.Pass.TheVariants.{Dry, Wet}
 use Rattle.read_full.specs.Full.{black, copied}
@@ -38,11 +38,11 @@ copied_short n b h = simp (lt-leb n (length b) h)
 
 -- a walk that is one write of the first n pixels: after a dry pass, after a wet one in which they came back as x
 module _ {k : Walk} {end : ℕ} {v : List ℕ} (whole : k ≡ and_then 0 v (ends end)) (p : Pass) (d : List ℕ) where
-  pub front_dry : p ≡ Dry → record { verdict : Ends end ≡ k.verdict; writes : d ≡ wrote p k.writes d }
+  pub front_dry : p ≡ Dry → record { verdict : Ok end ≡ k.verdict; writes : d ≡ wrote p k.writes d }
   front_dry e = record { verdict = sym (ap (λ (w : Walk). w.verdict) whole); writes = sym (ap (λ (q : Pass). wrote q k.writes d) e) }
 
   pub front_wet : p ≡ Wet → (x : List ℕ) (n : ℕ) → x ≡ v → length v ≡ n
-      → record { verdict : Ends end ≡ k.verdict; writes : x ++ drop (n - 0) d ≡ wrote p k.writes d }
+      → record { verdict : Ok end ≡ k.verdict; writes : x ++ drop (n - 0) d ≡ wrote p k.writes d }
   front_wet e x n i l = record {
     verdict = sym (ap (λ (w : Walk). w.verdict) whole);
     writes = span_back d x v 0 n n i l (omega arith)

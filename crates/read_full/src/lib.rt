@@ -15,7 +15,7 @@ pub fn walk_black(picture: &mut [u8], n: usize, pass: walk::Pass) -> walk::Verdi
         walk::Pass::Dry => {}
         walk::Pass::Wet => words::fill(&mut picture[0..n], 0),
     }
-    walk::Verdict::Ends(0)
+    Ok(0)
 }
 
 // Kind 16: the pixels are the body's.
@@ -25,11 +25,11 @@ pub fn walk_copy(picture: &mut [u8], body: &[u8], n: usize, pass: walk::Pass) ->
     ensures writes { picture.new ≡ wrote pass (copied n body.now).writes picture.old }
 {
     if body.len() < n {
-        return walk::Verdict::Fault(answer::Refusal::BodyEnds);
+        return Err(answer::Refusal::BodyEnds);
     }
     match pass {
         walk::Pass::Dry => {}
         walk::Pass::Wet => words::copy(&mut picture[0..n], &body[0..n]),
     }
-    walk::Verdict::Ends(n)
+    Ok(n)
 }

@@ -1,5 +1,5 @@
 -- Laws of kind 12, LC: what a row's start says, what a row, rows and a body come to.
-use mathlib.Core.Path.{◌≡◌, ap, ap₂, ◌∙◌, sym, refl}
+use mathlib.Core.Path.{◌≡◌, ap, ap₂, ◌∙◌, sym, refl, subst}
 use mathlib.Core.List.{List}
 use Prim.Native.Nat.{ℕ, suc, zero, ◌≤◌, ◌<◌, ◌+◌, ◌-◌, ◌*◌}
 use native.Mathlib.Nat.{not-suc-le-zero}
@@ -8,40 +8,39 @@ use native.Mathlib.Omega.{arith}
 use borrow.Author.Tests.{le-leb, lt-leb, leb-true, leb-false}
 use lib.Dec.{leb}
 use lib.ListN.{length, get_or}
+use Rattle.std.specs.Prelude.{Result, Ok, Err}
 use Rattle.words.specs.Words.{u16_at, require◌else◌then◌}
 use Rattle.words.proofs.Tests.{by_test}
 use Rattle.answer.specs.declared.Refusal.{Refusal}
 use Rattle.answer.specs.declared.Refusal.TheVariants.{BodyEnds, PastHeight}
-use Rattle.walk.specs.declared.Verdict.TheVariants as verdict
 use Rattle.walk.specs.declared.Pass.{Pass}
 use Rattle.walk.specs.Walk.{Walk, ends, fault, followed, wrote}
 use Rattle.walk.proofs.Laws.{seen, seen_onward, seen_stopped}
 use Rattle.walk.proofs.Sound.{Sound, sound_ends, sound_fault, sound_onward}
 use Rattle.read_packets.proofs.Laws.{packets_sound}
-use Rattle.read_lc.specs.Lc.{start_at, after_start, row_at, rows, lc}
+use Rattle.read_lc.specs.Lc.{start_of, start_at, after_start, row_at, rows, lc}
 use Rattle.read_lc.specs.declared.Start.{Start}
-use Rattle.read_lc.specs.declared.Start.TheVariants.{Fault, Row}
 
 -- a row's start
 
 module _ (b : List ℕ) (at : ℕ) where
-  pub start_cut : length b < at + 1 → start_at b at ≡ Fault BodyEnds
+  pub start_cut : length b < at + 1 → start_at b at ≡ Err BodyEnds
   unfolding start_at
   start_cut h = simp (lt-leb (at + 1) (length b) h)
 
-  pub start_whole : at + 1 ≤ length b → start_at b at ≡ Row (get_or b at 0) (at + 1)
+  pub start_whole : at + 1 ≤ length b → start_at b at ≡ Ok (start_of (get_or b at 0) (at + 1))
   unfolding start_at
   start_whole h = simp (le-leb (at + 1) (length b) h)
 
 -- behind a start that is no fault the packets begin within the body
-pub start_in : (b : List ℕ) (at count from : ℕ) → start_at b at ≡ Row count from → from ≤ length b
-start_in b at count from e =
-    by_test (λ p. from ≤ length b) (leb (at + 1) (length b))
+pub start_in : (b : List ℕ) (at : ℕ) (s : Start) → start_at b at ≡ Ok s → s.from ≤ length b
+start_in b at s e =
+    by_test (λ p. s.from ≤ length b) (leb (at + 1) (length b))
     (λ h.
     let k = leb-true (at + 1) (length b) h in
     let f = start_whole b at k in
-    let n : at + 1 ≡ from = cc in
-    omega arith)
+    let r : start_of (get_or b at 0) (at + 1) ≡ s = cc in
+    subst (λ (r : Start). r.from ≤ length b) r k)
     (λ h.
     let f = start_cut b at (leb-false (at + 1) (length b) h) in
     let z : ◌≡◌ {A = ℕ} 0 1 = cc in
@@ -50,7 +49,7 @@ start_in b at count from e =
 -- a row
 
 module _ (w : ℕ) (b : List ℕ) where
-  pub row_as : (row at : ℕ) (s : Start) → start_at b at ≡ s → row_at w b row at ≡ after_start w b row s
+  pub row_as : (row at : ℕ) (s : Result Start Refusal) → start_at b at ≡ s → row_at w b row at ≡ after_start w b row s
   unfolding row_at
   row_as row at s e = ap (after_start w b row) e
 
@@ -58,9 +57,9 @@ module _ (w : ℕ) (b : List ℕ) where
   pub row_sound : (h row at : ℕ) → row < h → Sound b (w * h) (row_at w b row at)
   row_sound h row at k = go (start_at b at) refl
     where
-      go : (s : Start) → start_at b at ≡ s → Sound b (w * h) (row_at w b row at)
-      go (Fault e) q = rw (row_as row at (Fault e) q) (sound_fault b (w * h) e)
-      go (Row count from) q = rw (row_as row at (Row count from) q) (packets_sound 1 w b h count row from 0 (start_in b at count from q) k)
+      go : (s : Result Start Refusal) → start_at b at ≡ s → Sound b (w * h) (row_at w b row at)
+      go (Err e) q = rw (row_as row at (Err e) q) (sound_fault b (w * h) e)
+      go (Ok s) q = rw (row_as row at (Ok s) q) (packets_sound 1 w b h s.count row s.from 0 (start_in b at s q) k)
 
 -- rows
 
@@ -75,15 +74,20 @@ module _ (w : ℕ) (b : List ℕ) where
   rows_step zero row at k = absurd (not-suc-le-zero k)
   rows_step (suc n) row at k = ap (λ (m : ℕ). followed (row_at w b row at) (λ end. rows w b m (row + 1) end)) (sym (sub-one (suc n)))
 
-  -- a row, which leaves e of d: the rows after it, if it ends; no more, if it meets a fault
-  module _ (p : Pass) (d e : List ℕ) (n row at : ℕ) (some : 0 < n) (left : e ≡ wrote p (row_at w b row at).writes d) where
-    pub rows_on : (end : ℕ) → (row_at w b row at).verdict ≡ verdict.Ends end → seen p (rows w b n row at) d ≡ seen p (rows w b (n - 1) (row + 1) end) e
+  -- a row, which leaves e of d: the rows after it, up to row stop, if it ends; no more, if it meets a fault
+  module _ (p : Pass) (d e : List ℕ) (stop row at : ℕ) (some : row < stop) (left : e ≡ wrote p (row_at w b row at).writes d) where
+    pub rows_on : (end : ℕ) → (row_at w b row at).verdict ≡ Ok end
+        → seen p (rows w b (stop - row) row at) d ≡ seen p (rows w b (stop - (row + 1)) (row + 1) end) e
     rows_on end v =
-        ap (λ (k : Walk). seen p k d) (rows_step n row at some) ∙ seen_onward p (row_at w b row at) (λ end. rows w b (n - 1) (row + 1) end) d e left end v
+        let n : stop - row - 1 ≡ stop - (row + 1) = omega arith in
+        ap (λ (k : Walk). seen p k d) (rows_step (stop - row) row at (omega arith))
+        ∙ seen_onward p (row_at w b row at) (λ end. rows w b (stop - row - 1) (row + 1) end) d e left end v
+        ∙ ap (λ (n : ℕ). seen p (rows w b n (row + 1) end) e) n
 
-    pub rows_stopped : (f : Refusal) → (row_at w b row at).verdict ≡ verdict.Fault f → seen p (rows w b n row at) d ≡ (verdict.Fault f, e)
+    pub rows_stopped : (f : Refusal) → (row_at w b row at).verdict ≡ Err f → seen p (rows w b (stop - row) row at) d ≡ (Err f, e)
     rows_stopped f v =
-        ap (λ (k : Walk). seen p k d) (rows_step n row at some) ∙ seen_stopped p (row_at w b row at) (λ end. rows w b (n - 1) (row + 1) end) d e left f v
+        ap (λ (k : Walk). seen p k d) (rows_step (stop - row) row at (omega arith))
+        ∙ seen_stopped p (row_at w b row at) (λ end. rows w b (stop - row - 1) (row + 1) end) d e left f v
 
   -- their data ends within the body, and they write bytes of it, within a picture of h rows
   pub rows_sound : (h n row at : ℕ) → at ≤ length b → row + n ≤ h → Sound b (w * h) (rows w b n row at)

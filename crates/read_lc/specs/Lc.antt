@@ -1,24 +1,28 @@
 -- Kind 12, LC (document 01, "Frames, chunks and rows"), as a walk over the body's bytes.
 use Prim.Native.Nat.{ℕ, zero, suc, ◌+◌}
-use Rattle.std.specs.Prelude.{List, length, get_or, leb}
+use Rattle.std.specs.Prelude.{List, length, get_or, leb, Result, Ok, Err}
 use Rattle.words.specs.Words.{require◌else◌then◌, u16_at}
+use Rattle.answer.specs.declared.Refusal.{Refusal}
 use Rattle.answer.specs.declared.Refusal.TheVariants.{BodyEnds, PastHeight}
 use Rattle.walk.specs.Walk.{Walk, ends, fault, followed}
 use Rattle.read_packets.specs.Packets.{packets}
 use Rattle.read_lc.specs.declared.Start.{Start}
-use Rattle.read_lc.specs.declared.Start.TheVariants.{Fault, Row}
+
+-- the start of a row of so many packets, of which the first is at offset from
+abbrev pub start_of : ℕ → ℕ → Start
+start_of count from = record { count = count; from = from }
 
 -- "rows begin with the packet count alone"; "A row start is one byte" (document 02, Req 04), 7 where it isn't there
-unfoldable pub start_at : List ℕ → ℕ → Start
+unfoldable pub start_at : List ℕ → ℕ → Result Start Refusal
 start_at b at =
-    require leb (at + 1) (length b) else Fault BodyEnds then
-    Row (get_or b at 0) (at + 1)
+    require leb (at + 1) (length b) else Err BodyEnds then
+    Ok (start_of (get_or b at 0) (at + 1))
 
 module _ (w : ℕ) (b : List ℕ) where
   -- a row's packets, on row row: "x starts at 0 and the first packet's skip does the work"
-  abbrev pub after_start : ℕ → Start → Walk
-  after_start row (Fault e) = fault e
-  after_start row (Row count from) = packets 1 w b count row from 0
+  abbrev pub after_start : ℕ → Result Start Refusal → Walk
+  after_start row (Err e) = fault e
+  after_start row (Ok s) = packets 1 w b s.count row s.from 0
 
   -- the row at offset at
   unfoldable pub row_at : ℕ → ℕ → Walk

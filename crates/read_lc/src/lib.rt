@@ -6,25 +6,28 @@ ghost use Rattle.format.specs.Limits.{Wide, High};
 ghost use Rattle.walk.specs.Walk.{wrote, Room};
 ghost use Rattle.read_lc.specs.Lc.{start_at, row_at, lc};
 
-// A row's start: a fault, or the packet count and the offset of the first packet.
+use answer::Refusal;
+
+// A row's start: the packet count and the offset of the first packet.
 #[derive(Clone, Copy)]
-pub enum Start {
-    Fault(answer::Refusal),
-    Row { count: usize, from: usize },
+pub struct Start {
+    pub count: usize,
+    pub from: usize,
 }
 
 // The row start at offset at.
-fn start_at(body: &[u8], at: usize) -> Start
+#[tactic(auto, unfolding(crate::specs::Lc::start_at))]
+fn start_at(body: &[u8], at: usize) -> Result<Start, Refusal>
     requires { at ≤ length body.now }
     ensures { result ≡ start_at body.now at }
 {
     if body.len() - at < 1 {
-        return Start::Fault(answer::Refusal::BodyEnds);
+        return Err(Refusal::BodyEnds);
     }
-    Start::Row {
-        count: words::wide(body[at]),
+    Ok(Start {
+        count: usize::from(body[at]),
         from: at + 1,
-    }
+    })
 }
 
 // Walks over the row at offset at, row row of the picture. A row without packets, as an FLI's delta has for each row that stays, is done at
@@ -41,15 +44,11 @@ fn walk_row(
     ensures verdict { result ≡ (row_at width body.now row at).verdict }
     ensures writes { picture.new ≡ wrote pass (row_at width body.now row at).writes picture.old }
 {
-    match start_at(body, at) {
-        Start::Fault(e) => walk::Verdict::Fault(e),
-        Start::Row { count, from } => {
-            if count == 0 {
-                return walk::Verdict::Ends(from);
-            }
-            read_packets::walk_packets(picture, body, count, from, width, row, 1, pass)
-        }
+    let start = start_at(body, at)?;
+    if start.count == 0 {
+        return Ok(start.from);
     }
+    read_packets::walk_packets::<1>(picture, body, start.count, start.from, width, row, pass)
 }
 
 // Walks over a body, for a picture of this width and height.
@@ -65,25 +64,16 @@ pub fn walk_lc(
     ensures writes { picture.new ≡ wrote pass (lc width height body.now).writes picture.old }
 {
     if body.len() < 4 {
-        return walk::Verdict::Fault(answer::Refusal::BodyEnds);
+        return Err(Refusal::BodyEnds);
     }
-    let mut row = words::u16_at(body, 0);
-    let mut left = words::u16_at(body, 2);
-    if height < row + left {
-        return walk::Verdict::Fault(answer::Refusal::PastHeight);
+    let first = words::u16_at(body, 0);
+    let end = first + words::u16_at(body, 2);
+    if height < end {
+        return Err(Refusal::PastHeight);
     }
     let mut at = 4;
-    while left > 0 {
-        match walk_row(picture, body, at, width, row, pass) {
-            walk::Verdict::Fault(e) => {
-                return walk::Verdict::Fault(e);
-            }
-            walk::Verdict::Ends(end) => {
-                at = end;
-                row += 1;
-                left -= 1;
-            }
-        }
+    for row in first..end {
+        at = walk_row(picture, body, at, width, row, pass)?;
     }
-    walk::Verdict::Ends(at)
+    Ok(at)
 }

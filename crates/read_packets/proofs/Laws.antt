@@ -1,5 +1,5 @@
 -- Laws of the packets of a delta row: what each type of packet has, what each packet says, what a row of them comes to.
-use mathlib.Core.Path.{◌≡◌, ap, ap₂, ◌∙◌, sym, refl}
+use mathlib.Core.Path.{◌≡◌, ap, ap₂, ◌∙◌, sym, refl, subst}
 use mathlib.Core.List.{List, [], ◌∷◌, ◌++◌, append-nil, append_assoc}
 use mathlib.Core.Bool.{Bool, true, false}
 use Prim.Native.Nat.{ℕ, suc, zero, ◌≤◌, ◌<◌, ◌+◌, ◌-◌, ◌*◌, ◌/◌, ◌%◌}
@@ -10,22 +10,24 @@ use borrow.Author.Tests.{le-leb, lt-leb, lt-ltb, le-ltb, ltb-true, ltb-false, le
 use lib.Dec.{leb, ltb, eqb}
 use lib.ListN.{length, drop, take, set, get_or, replicate, length-drop, length-append, drop_of_length-le}
 use lib.Seq.{length-take-le, drop-cons, take-append-le}
+use Rattle.std.specs.Prelude.{Ok, Err}
+use Rattle.std.specs.Result.{IsErrAnd}
 use Rattle.words.specs.Words.{magnitude, le32, Bytes}
 use Rattle.words.specs.Writes.{put}
 use Rattle.words.proofs.Laws.{magnitude_plus, magnitude_minus, put_front, length_put, row_in, bytes_take, bytes_drop}
 use Rattle.words.proofs.Bytewise.{bytes_join}
 use Rattle.words.proofs.Tests.{by_test, cond_holds}
+use Rattle.answer.proofs.Laws.{handed_on}
 use Rattle.answer.specs.declared.Refusal.{Refusal}
 use Rattle.answer.specs.declared.Refusal.TheVariants.{BodyEnds, PastWidth}
-use Rattle.walk.specs.Walk.{Walk, ends, fault, and_then, stored}
+use Rattle.walk.specs.Walk.{Verdict, Walk, ends, fault, and_then, stored, wrote}
 use Rattle.walk.specs.declared.Pass.{Pass}
-use Rattle.walk.proofs.Laws.{seen, seen_then}
+use Rattle.walk.proofs.Laws.{seen, seen_gives, seen_then}
 use Rattle.walk.proofs.Sound.{Sound, sound_ends, sound_fault, sound_then}
 use Rattle.words.proofs.Tests.{both_true}
-use Rattle.read_packets.specs.Packets.{repeated, data_bytes, pixels, packet_of, packet_at, after_packet, packets}
+use Rattle.read_packets.specs.Packets.{repeated, data_bytes, pixels, packet_to, PacketStep, packet_of, packet_at, after_packet, packets}
 use Rattle.read_packets.specs.Pair.{one_pair, pair_at}
-use Rattle.read_packets.specs.declared.PacketStep.{PacketStep}
-use Rattle.read_packets.specs.declared.PacketStep.TheVariants.{Fault, Pixels}
+use Rattle.read_packets.specs.declared.Packet.{Packet}
 
 -- pixels repeated
 
@@ -104,8 +106,8 @@ few_pairs l v n p q e s h k =
     by_count (suc (suc (suc (suc zero)))) h k = refl
     by_count (suc (suc (suc (suc (suc n))))) h k = absurd (omega arith)
 
--- at most 128 pixels or pairs
-pub units_small : (unit n : ℕ) → unit ≤ 2 → n ≤ 128 → unit * n ≤ 256
+-- at most 256 pixels or pairs
+pub units_small : (unit n : ℕ) → unit ≤ 2 → n ≤ 256 → unit * n ≤ 512
 units_small unit n h k = mul-le-mul h k
 
 -- the data of a type: below 128 a copy, from 128 on a repeat
@@ -181,21 +183,21 @@ module _ (unit w : ℕ) (b : List ℕ) (at x : ℕ) where
   abbrev past : ℕ
   past = from + unit * magnitude type
 
-  pub packet_cut : length b < at + 2 → packet_at unit w b at x ≡ Fault BodyEnds
+  pub packet_cut : length b < at + 2 → packet_at unit w b at x ≡ Err BodyEnds
   unfolding packet_at
   packet_cut h = simp (lt-leb (at + 2) (length b) h)
 
-  pub packet_past : at + 2 ≤ length b → w < past → packet_at unit w b at x ≡ Fault PastWidth
+  pub packet_past : at + 2 ≤ length b → w < past → packet_at unit w b at x ≡ Err PastWidth
   unfolding packet_at packet_of
   packet_past h k = simp (le-leb (at + 2) (length b) h, lt-leb past w k)
 
-  pub packet_short : at + 2 ≤ length b → past ≤ w → length b < at + 2 + data_bytes unit type → packet_at unit w b at x ≡ Fault BodyEnds
+  pub packet_short : at + 2 ≤ length b → past ≤ w → length b < at + 2 + data_bytes unit type → packet_at unit w b at x ≡ Err BodyEnds
   unfolding packet_at packet_of
   packet_short h k l =
       simp (le-leb (at + 2) (length b) h, le-leb past w k, lt-leb (at + 2 + data_bytes unit type) (length b) l)
 
   pub packet_whole : at + 2 ≤ length b → past ≤ w → at + 2 + data_bytes unit type ≤ length b
-      → packet_at unit w b at x ≡ Pixels type from past (at + 2 + data_bytes unit type)
+      → packet_at unit w b at x ≡ Ok (packet_to type from past (at + 2 + data_bytes unit type))
   unfolding packet_at packet_of
   packet_whole h k l =
       simp (le-leb (at + 2) (length b) h, le-leb past w k, le-leb (at + 2 + data_bytes unit type) (length b) l)
@@ -260,7 +262,7 @@ module _ (unit w : ℕ) (b : List ℕ) (at x : ℕ) where
       let r = one_pair_lem unit (get_or b (at + 1) 0) q.0 in
       record { pairs = r.0; in_body = leb-true _ _ p.0; one = r.1; in_row = leb-true _ _ q.1 }
 
-  pub pair_whole : PairIn → packet_at unit w b at x ≡ Pixels 1 (x + get_or b at 0) (x + get_or b at 0 + 2) (at + 4)
+  pub pair_whole : PairIn → packet_at unit w b at x ≡ Ok (packet_to 1 (x + get_or b at 0) (x + get_or b at 0 + 2) (at + 4))
   pair_whole p =
       let t = type unit w b at x in
       let m = pair_length unit t p.pairs p.one in
@@ -270,35 +272,37 @@ module _ (unit w : ℕ) (b : List ℕ) (at x : ℕ) where
       cc (packet_whole unit w b at x (omega (arith, p.in_body)) (omega (arith, p.in_row)) (omega (arith, p.in_body)), p.one)
 
 -- a packet that is no fault: its pixels lie in the row, its data in the body
-pub record PacketIn (unit w : ℕ) (b : List ℕ) (at t x next end : ℕ) : Type 0 where
-  pub columns : x + unit * magnitude t ≡ next
-  pub in_row : next ≤ w
-  pub bytes : at + 2 + data_bytes unit t ≡ end
-  pub in_body : end ≤ length b
+pub record PacketIn (unit w : ℕ) (b : List ℕ) (at : ℕ) (q : Packet) : Type 0 where
+  pub columns : q.x + unit * magnitude q.code ≡ q.next
+  pub in_row : q.next ≤ w
+  pub bytes : at + 2 + data_bytes unit q.code ≡ q.end
+  pub in_body : q.end ≤ length b
 
-module _ (unit w : ℕ) (b : List ℕ) (at x t to next end : ℕ) (e : packet_at unit w b at x ≡ Pixels t to next end) where
+module _ (unit w : ℕ) (b : List ℕ) (at x : ℕ) (q : Packet) (e : packet_at unit w b at x ≡ Ok q) where
   -- a fault is no such packet
-  not_fault : {C : Type 0} {r : Refusal} → packet_at unit w b at x ≡ Fault r → C
+  not_fault : {C : Type 0} {r : Refusal} → packet_at unit w b at x ≡ Err r → C
   not_fault f = let z : ◌≡◌ {A = ℕ} 0 1 = cc in absurd (omega arith)
 
-  pub packet_in : PacketIn unit w b at t to next end
+  pub packet_in : PacketIn unit w b at q
   packet_in =
       go (leb (at + 2) (length b)) (leb (past unit w b at x) w) (leb (at + 2 + data_bytes unit (type unit w b at x)) (length b)) refl refl refl
     where
-      go : (p q r : Bool) → leb (at + 2) (length b) ≡ p → leb (past unit w b at x) w ≡ q
-          → leb (at + 2 + data_bytes unit (type unit w b at x)) (length b) ≡ r → PacketIn unit w b at t to next end
+      go : (p s r : Bool) → leb (at + 2) (length b) ≡ p → leb (past unit w b at x) w ≡ s
+          → leb (at + 2 + data_bytes unit (type unit w b at x)) (length b) ≡ r → PacketIn unit w b at q
       go true true true h k l =
-          let n = leb-true _ _ k in
-          let m = leb-true _ _ l in
-          let f = packet_whole unit w b at x (leb-true _ _ h) n m in
-          let p : past unit w b at x ≡ next = cc in
-          let q : at + 2 + data_bytes unit (type unit w b at x) ≡ end = cc in
-          record { columns = cc; in_row = omega arith; bytes = cc; in_body = omega arith }
+          let f = packet_whole unit w b at x (leb-true _ _ h) (leb-true _ _ k) (leb-true _ _ l) in
+          let s : packet_to (type unit w b at x) (from unit w b at x) (past unit w b at x) (at + 2 + data_bytes unit (type unit w b at x)) ≡ q = cc in
+          subst (PacketIn unit w b at) s (record { columns = refl; in_row = leb-true _ _ k; bytes = refl; in_body = leb-true _ _ l })
       go true true false h k l = not_fault (packet_short unit w b at x (leb-true _ _ h) (leb-true _ _ k) (leb-false _ _ l))
       go true false r h k l = not_fault (packet_past unit w b at x (leb-true _ _ h) (leb-false _ _ k))
-      go false q r h k l = not_fault (packet_cut unit w b at x (leb-false _ _ h))
+      go false s r h k l = not_fault (packet_cut unit w b at x (leb-false _ _ h))
 
 -- packets
+
+-- what the exit of a `?` of a walk returns: the fault that was met, and what was left till then
+pub seen_refused : {r : Verdict} {f : Refusal} (p : Pass) (k : Walk) (d e : List ℕ) → IsErrAnd r (λ x. x ≡ f) → seen p k d ≡ (Err f, e)
+    → record { verdict : r ≡ k.verdict; writes : e ≡ wrote p k.writes d }
+seen_refused p k d e i s = seen_gives p k d e _ (s ∙ ap (λ (v : Verdict). (v, e)) (sym (handed_on i)))
 
 module _ (unit w : ℕ) (b : List ℕ) where
   packets_step : (n row at x : ℕ) → 0 < n
@@ -313,23 +317,36 @@ module _ (unit w : ℕ) (b : List ℕ) where
   packets_none zero row at x h = refl
   packets_none (suc n) row at x h = absurd (not-suc-le-zero h)
 
-  pub packets_stop : (n row at x : ℕ) → 0 < n → (e : Refusal) → packet_at unit w b at x ≡ Fault e → packets unit w b n row at x ≡ fault e
+  pub packets_stop : (n row at x : ℕ) → 0 < n → (e : Refusal) → packet_at unit w b at x ≡ Err e → packets unit w b n row at x ≡ fault e
   packets_stop n row at x h e q =
       packets_step n row at x h ∙ ap (λ (p : PacketStep). after_packet unit w b row at p (λ at' x'. packets unit w b (n - 1) row at' x')) q
 
-  pub packets_more : (n row at x : ℕ) → 0 < n → (t to next end : ℕ) → packet_at unit w b at x ≡ Pixels t to next end
+  pub packets_more : (n row at x : ℕ) → 0 < n → (t to next end : ℕ) → packet_at unit w b at x ≡ Ok (packet_to t to next end)
       → packets unit w b n row at x ≡ and_then (row * w + to) (pixels unit b (at + 2) t) (packets unit w b (n - 1) row end next)
   packets_more n row at x h t to next end q =
       packets_step n row at x h ∙ ap (λ (p : PacketStep). after_packet unit w b row at p (λ at' x'. packets unit w b (n - 1) row at' x')) q
 
-  -- a whole packet, which leaves e of d, and then the packets after it
-  pub packets_on : (p : Pass) (d e : List ℕ) (n row at x : ℕ) → 0 < n → (t to next end : ℕ) → packet_at unit w b at x ≡ Pixels t to next end
-      → e ≡ stored p d (row * w + to) (pixels unit b (at + 2) t)
-      → seen p (packets unit w b n row at x) d ≡ seen p (packets unit w b (n - 1) row end next) e
-  packets_on p d e n row at x h t to next end q s =
-      ap (λ (k : Walk). seen p k d) (packets_more n row at x h t to next end q)
-      ∙ seen_then p (row * w + to) (pixels unit b (at + 2) t) d (packets unit w b (n - 1) row end next)
-      ∙ ap (seen p (packets unit w b (n - 1) row end next)) (sym s)
+  -- a whole packet, the first behind i of m, and then those behind it, at offset at' and column x'
+  module _ (m i row at x at' x' : ℕ) (some : i < m) (q : Packet) (s : packet_at unit w b at x ≡ Ok q) (j : at' ≡ q.end) (k : x' ≡ q.next) where
+    packets_next : packets unit w b (m - i) row at x
+        ≡ and_then (row * w + q.x) (pixels unit b (at + 2) q.code) (packets unit w b (m - (i + 1)) row at' x')
+    packets_next =
+        let n : m - i - 1 ≡ m - (i + 1) = omega arith in
+        packets_more (m - i) row at x (omega arith) _ _ _ _ s
+        ∙ ap (and_then (row * w + q.x) (pixels unit b (at + 2) q.code))
+        (ap (λ (c : ℕ). packets unit w b c row q.end q.next) n ∙ ap₂ (λ (y z : ℕ). packets unit w b (m - (i + 1)) row y z) (sym j) (sym k))
+
+    -- how they come out
+    pub packets_verdict : (packets unit w b (m - i) row at x).verdict ≡ (packets unit w b (m - (i + 1)) row at' x').verdict
+    packets_verdict = ap (λ (c : Walk). c.verdict) packets_next
+
+    -- where it leaves e of d
+    pub packets_on : (p : Pass) (d e : List ℕ) → e ≡ stored p d (row * w + q.x) (pixels unit b (at + 2) q.code)
+        → seen p (packets unit w b (m - i) row at x) d ≡ seen p (packets unit w b (m - (i + 1)) row at' x') e
+    packets_on p d e l =
+        ap (λ (c : Walk). seen p c d) packets_next
+        ∙ seen_then p (row * w + q.x) (pixels unit b (at + 2) q.code) d (packets unit w b (m - (i + 1)) row at' x')
+        ∙ ap (seen p (packets unit w b (m - (i + 1)) row at' x')) (sym l)
 
   -- the row doesn't bear on how packets come out
   pub packets_row : (n row at x : ℕ) → (packets unit w b n row at x).verdict ≡ (packets unit w b n 0 at x).verdict
@@ -340,8 +357,8 @@ module _ (unit w : ℕ) (b : List ℕ) where
       go : (p : PacketStep) → ((at' x' : ℕ) → (packets unit w b n row at' x').verdict ≡ (packets unit w b n 0 at' x').verdict)
           → (after_packet unit w b row at p (λ at' x'. packets unit w b n row at' x')).verdict
           ≡ (after_packet unit w b 0 at p (λ at' x'. packets unit w b n 0 at' x')).verdict
-      go (Fault e) same = refl
-      go (Pixels t to next end) same = same end next
+      go (Err e) same = refl
+      go (Ok p) same = same p.end p.next
 
   -- their data ends within the body, and they write bytes of it, within a picture of h rows
   pub packets_sound : (h n row at x : ℕ) → at ≤ length b → row < h → Sound b (w * h) (packets unit w b n row at x)
@@ -351,9 +368,9 @@ module _ (unit w : ℕ) (b : List ℕ) where
     where
       go : (p : PacketStep) → packet_at unit w b at x ≡ p → ((at' x' : ℕ) → at' ≤ length b → Sound b (w * h) (packets unit w b n row at' x'))
           → Sound b (w * h) (after_packet unit w b row at p (λ at' x'. packets unit w b n row at' x'))
-      go (Fault e) q f = sound_fault b (w * h) e
-      go (Pixels t to next end) q f =
-          let i = packet_in unit w b at x t to next end q in
-          sound_then b (w * h) (row * w + to) (pixels unit b (at + 2) t) (packets unit w b n row end next)
-          (omega (arith, length_pixels unit b (at + 2) t (omega (arith, i.bytes, i.in_body)), i.columns, i.in_row, row_in w h row k))
-          (pixels_bytes unit b (at + 2) t) (f end next i.in_body)
+      go (Err e) q f = sound_fault b (w * h) e
+      go (Ok p) q f =
+          let i = packet_in unit w b at x p q in
+          sound_then b (w * h) (row * w + p.x) (pixels unit b (at + 2) p.code) (packets unit w b n row p.end p.next)
+          (omega (arith, length_pixels unit b (at + 2) p.code (omega (arith, i.bytes, i.in_body)), i.columns, i.in_row, row_in w h row k))
+          (pixels_bytes unit b (at + 2) p.code) (f p.end p.next i.in_body)

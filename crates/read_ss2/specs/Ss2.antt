@@ -1,17 +1,24 @@
 -- Kind 7, SS2 (document 01, "Frames, chunks and rows"), as a walk over the body's bytes.
 use Prim.Native.Nat.{ℕ, zero, suc, ◌+◌, ◌-◌, ◌*◌, ◌/◌, ◌%◌}
-use Rattle.std.specs.Prelude.{List, [], ◌∷◌, length, ltb}
+use Rattle.std.specs.Prelude.{List, [], ◌∷◌, length, ltb, Option, Some, None, Result, Ok, Err}
 use Rattle.std.proofs.Math.Dec.{leb}
 use Rattle.words.specs.Words.{require◌else◌then◌, u16_at}
+use Rattle.answer.specs.declared.Refusal.{Refusal}
 use Rattle.answer.specs.declared.Refusal.TheVariants.{BodyEnds, PastHeight, BadWord}
 use Rattle.walk.specs.Walk.{Walk, ends, fault, and_then, followed}
 use Rattle.read_packets.specs.Packets.{packets}
 use Rattle.read_ss2.specs.declared.Word.{Word}
 use Rattle.read_ss2.specs.declared.Word.TheVariants.{Count, Bad, Last, Skip}
-use Rattle.read_ss2.specs.declared.LastPixel.{LastPixel}
-use Rattle.read_ss2.specs.declared.LastPixel.TheVariants.{Kept, Set}
 use Rattle.read_ss2.specs.declared.Line.{Line}
-use Rattle.read_ss2.specs.declared.Line.TheVariants.{Fault, Down, Row}
+use Rattle.read_ss2.specs.declared.Line.TheVariants.{Down, Row}
+
+-- the last pixel of a row, if a line sets it by a word of its own
+abbrev pub LastPixel : Type 0
+LastPixel = Option ℕ
+
+-- a line, or its first fault
+abbrev pub LineStep : Type 0
+LineStep = Result Line Refusal
 
 -- "00 packet count, 10 last pixel (low byte ..), 11 skip down by the absolute value as a signed word, 01 refused"
 abbrev pub by_high : ℕ → ℕ → Word
@@ -25,40 +32,40 @@ unfoldable pub word_of : ℕ → Word
 word_of w = by_high (w / 16384) w
 
 -- the word after a last-pixel word of pixel v, the next byte being at offset at: "no packet count after a last-pixel word" is 11
-abbrev pub count_after : ℕ → ℕ → Word → Line
-count_after at v (Count n) = Row (Set v) n at
-count_after at v Bad = Fault BadWord
-count_after at v (Last v') = Fault BadWord
-count_after at v (Skip k) = Fault BadWord
+abbrev pub count_after : ℕ → ℕ → Word → LineStep
+count_after at v (Count n) = Ok (Row (Some v) n at)
+count_after at v Bad = Err BadWord
+count_after at v (Last v') = Err BadWord
+count_after at v (Skip k) = Err BadWord
 
 -- the packet count at offset at, after the last-pixel word of pixel v
-unfoldable pub last_at : List ℕ → ℕ → ℕ → Line
+unfoldable pub last_at : List ℕ → ℕ → ℕ → LineStep
 unfolding word_of u16_at
 last_at b at v =
-    require leb (at + 2) (length b) else Fault BodyEnds then
+    require leb (at + 2) (length b) else Err BodyEnds then
     count_after (at + 2) v (word_of (u16_at b at))
 
 module _ (h : ℕ) (b : List ℕ) where
   -- a word on row row, the next one being at offset at: "A skip that reaches a row at or past the height,
   -- or a last-pixel word or packet count that stands on one, is refusal 10"
-  abbrev pub line_of : ℕ → ℕ → Word → Line
-  line_of at row (Count n) = require ltb row h else Fault PastHeight then Row Kept n at
-  line_of at row Bad = Fault BadWord
-  line_of at row (Last v) = require ltb row h else Fault PastHeight then last_at b at v
-  line_of at row (Skip k) = require ltb (row + k) h else Fault PastHeight then Down k
+  abbrev pub line_of : ℕ → ℕ → Word → LineStep
+  line_of at row (Count n) = require ltb row h else Err PastHeight then Ok (Row None n at)
+  line_of at row Bad = Err BadWord
+  line_of at row (Last v) = require ltb row h else Err PastHeight then last_at b at v
+  line_of at row (Skip k) = require ltb (row + k) h else Err PastHeight then Ok (Down k)
 
   -- the line at offset at: "a word that isn't there is 7, before 11, and 11 before 10"
-  unfoldable pub line_at : ℕ → ℕ → Line
+  unfoldable pub line_at : ℕ → ℕ → LineStep
   unfolding last_at
   line_at at row =
-      require leb (at + 2) (length b) else Fault BodyEnds then
+      require leb (at + 2) (length b) else Err BodyEnds then
       line_of (at + 2) row (word_of (u16_at b at))
 
 module _ (w : ℕ) where
   -- "last pixel (low byte goes to column width - 1, at any width)", and then the walk k: "Packets act after the last-pixel word"
   abbrev pub last_first : ℕ → LastPixel → Walk → Walk
-  last_first row Kept k = k
-  last_first row (Set v) k = and_then (row * w + (w - 1)) (v ∷ []) k
+  last_first row None k = k
+  last_first row (Some v) k = and_then (row * w + (w - 1)) (v ∷ []) k
 
   -- what a line does on row row: its last pixel, and then count packets of pixel pairs from offset from on
   unfoldable pub line_walk : List ℕ → ℕ → LastPixel → ℕ → ℕ → Walk
@@ -66,10 +73,10 @@ module _ (w : ℕ) where
 
 module _ (w h : ℕ) (b : List ℕ) where
   -- a line on row row, and then the walk of the lines below it; down: the walk after a skip
-  abbrev pub after_line : ℕ → Line → (ℕ → Walk) → (ℕ → Walk) → Walk
-  after_line row (Fault e) below down = fault e
-  after_line row (Down k) below down = down k
-  after_line row (Row last count from) below down = followed (line_walk w b row last count from) below
+  abbrev pub after_line : ℕ → LineStep → (ℕ → Walk) → (ℕ → Walk) → Walk
+  after_line row (Err e) below down = fault e
+  after_line row (Ok (Down k)) below down = down k
+  after_line row (Ok (Row last count from)) below down = followed (line_walk w b row last count from) below
 
   -- n lines from offset at on, row row being the next; of the r rows down to the height, skip are stepped over first.
   -- "A packet count ends the line and moves down one row"

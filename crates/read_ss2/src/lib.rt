@@ -7,6 +7,8 @@ ghost use Rattle.format.specs.Limits.{Wide, High};
 ghost use Rattle.walk.specs.Walk.{ends, wrote, Room};
 ghost use Rattle.read_ss2.specs.Ss2.{word_of, last_at, line_at, last_first, line_walk, ss2};
 
+use answer::Refusal;
+
 // What a word is, by its two high bits.
 #[derive(Clone, Copy)]
 pub enum Word {
@@ -16,34 +18,28 @@ pub enum Word {
     Skip(usize),
 }
 
-// Whether a line sets the last pixel of its row by a word of its own.
-#[derive(Clone, Copy)]
-pub enum LastPixel {
-    Kept,
-    Set(u8),
-}
-
-// The word or words at a line: a fault, a skip down, or a row with its packet count and the offset of the first packet.
+// The word or words at a line: a skip down, or a row with the last pixel that a word of its own sets, its packet count and the
+// offset of the first packet.
 #[derive(Clone, Copy)]
 pub enum Line {
-    Fault(answer::Refusal),
     Down(usize),
     Row {
-        last: LastPixel,
+        last: Option<u8>,
         count: usize,
         from: usize,
     },
 }
 
 // "The two high bits of each word decide what it is."
+#[tactic(auto, unfolding(crate::specs::Ss2::word_of))]
 fn word_of(w: u16) -> Word
     ensures { result ≡ word_of w }
 {
     match w {
-        0..=0x3fff => Word::Count(w as usize),
+        0..=0x3fff => Word::Count(usize::from(w)),
         0x4000..=0x7fff => Word::Bad,
         0x8000..=0xbfff => Word::Last((w % 256) as u8),
-        0xc000..=0xffff => Word::Skip(65536 - w as usize),
+        0xc000..=0xffff => Word::Skip(65536 - usize::from(w)),
     }
 }
 
@@ -57,74 +53,59 @@ fn word_at(body: &[u8], at: usize) -> Word
 }
 
 // The packet count that must follow a last-pixel word, at offset at.
-fn last_at(body: &[u8], at: usize, pixel: u8) -> Line
+#[tactic(auto, using(crate::proofs::Laws::last_cut, crate::proofs::Laws::last_there))]
+fn last_at(body: &[u8], at: usize, pixel: u8) -> Result<Line, Refusal>
     requires { at ≤ length body.now }
     ensures { result ≡ last_at body.now at pixel }
 {
     if body.len() - at < 2 {
-        return Line::Fault(answer::Refusal::BodyEnds);
+        return Err(Refusal::BodyEnds);
     }
     match word_at(body, at) {
-        Word::Count(count) => Line::Row {
-            last: LastPixel::Set(pixel),
+        Word::Count(count) => Ok(Line::Row {
+            last: Some(pixel),
             count,
             from: at + 2,
-        },
-        Word::Bad => Line::Fault(answer::Refusal::BadWord),
-        Word::Last(_) => Line::Fault(answer::Refusal::BadWord),
-        Word::Skip(_) => Line::Fault(answer::Refusal::BadWord),
+        }),
+        Word::Bad | Word::Last(_) | Word::Skip(_) => Err(Refusal::BadWord),
     }
 }
 
 // The line at offset at, on row row.
-fn line_at(body: &[u8], at: usize, row: usize, height: usize) -> Line
+#[tactic(auto, using(crate::proofs::Laws::word_skip), unfolding(crate::specs::Ss2::line_at))]
+fn line_at(body: &[u8], at: usize, row: usize, height: usize) -> Result<Line, Refusal>
     requires { (at ≤ length body.now) × (row ≤ height) × High height }
     ensures { result ≡ line_at height body.now at row }
 {
     if body.len() - at < 2 {
-        return Line::Fault(answer::Refusal::BodyEnds);
+        return Err(Refusal::BodyEnds);
     }
     match word_at(body, at) {
-        Word::Count(count) => {
-            if row < height {
-                return Line::Row {
-                    last: LastPixel::Kept,
-                    count,
-                    from: at + 2,
-                };
-            }
-        }
-        Word::Bad => {
-            return Line::Fault(answer::Refusal::BadWord);
-        }
-        Word::Last(pixel) => {
-            if row < height {
-                return last_at(body, at + 2, pixel);
-            }
-        }
-        Word::Skip(rows) => {
-            if row + rows < height {
-                return Line::Down(rows);
-            }
-        }
+        Word::Count(count) if row < height => Ok(Line::Row {
+            last: None,
+            count,
+            from: at + 2,
+        }),
+        Word::Bad => Err(Refusal::BadWord),
+        Word::Last(pixel) if row < height => last_at(body, at + 2, pixel),
+        Word::Skip(rows) if row + rows < height => Ok(Line::Down(rows)),
+        _ => Err(Refusal::PastHeight),
     }
-    Line::Fault(answer::Refusal::PastHeight)
 }
 
 // Stores the last pixel of row row, if the line sets it.
-fn put_last(picture: &mut [u8], last: LastPixel, width: usize, row: usize, pass: walk::Pass)
+fn put_last(picture: &mut [u8], last: Option<u8>, width: usize, row: usize, pass: walk::Pass)
     requires { (1 ≤ width) × Wide width × High row × Room pass (row * width + width) picture.old }
     ensures { picture.new ≡ wrote pass (last_first width row last (ends 0)).writes picture.old }
 {
     match pass {
         walk::Pass::Dry => {}
-        walk::Pass::Wet => match last {
-            LastPixel::Kept => {}
-            LastPixel::Set(pixel) => {
+        walk::Pass::Wet => {
+            if let Some(pixel) = last {
                 let place = row * width + (width - 1);
                 picture[place] = pixel;
             }
-        },
+        }
     }
 }
 
@@ -132,7 +113,7 @@ fn put_last(picture: &mut [u8], last: LastPixel, width: usize, row: usize, pass:
 fn walk_line(
     picture: &mut [u8],
     body: &[u8],
-    last: LastPixel,
+    last: Option<u8>,
     count: usize,
     from: usize,
     width: usize,
@@ -144,7 +125,7 @@ fn walk_line(
     ensures writes { picture.new ≡ wrote pass (line_walk width body.now row last count from).writes picture.old }
 {
     put_last(picture, last, width, row, pass);
-    read_packets::walk_packets(picture, body, count, from, width, row, 2, pass)
+    read_packets::walk_packets::<2>(picture, body, count, from, width, row, pass)
 }
 
 // Walks over a body, for a picture of this width and height.
@@ -160,33 +141,24 @@ pub fn walk_ss2(
     ensures writes { picture.new ≡ wrote pass (ss2 width height body.now).writes picture.old }
 {
     if body.len() < 2 {
-        return walk::Verdict::Fault(answer::Refusal::BodyEnds);
+        return Err(Refusal::BodyEnds);
     }
     let mut left = words::u16_at(body, 0);
     let mut at = 2;
     let mut row = 0;
+    // A skip is no line: left goes down at a row alone, so that no count of steps is known.
     while left > 0 {
-        match line_at(body, at, row, height) {
-            Line::Fault(e) => {
-                return walk::Verdict::Fault(e);
-            }
+        match line_at(body, at, row, height)? {
             Line::Down(rows) => {
                 row += rows;
                 at += 2;
             }
             Line::Row { last, count, from } => {
-                match walk_line(picture, body, last, count, from, width, row, pass) {
-                    walk::Verdict::Fault(e) => {
-                        return walk::Verdict::Fault(e);
-                    }
-                    walk::Verdict::Ends(end) => {
-                        at = end;
-                        row += 1;
-                        left -= 1;
-                    }
-                }
+                at = walk_line(picture, body, last, count, from, width, row, pass)?;
+                row += 1;
+                left -= 1;
             }
         }
     }
-    walk::Verdict::Ends(at)
+    Ok(at)
 }

@@ -1,13 +1,14 @@
 -- Laws of a frame put at an offset, and of the calls that build a reel, by the order of their checks.
 use mathlib.Core.Path.{◌≡◌, refl, sym, ap, ap₂, ◌∙◌}
 use mathlib.Core.List.{List, [], ◌∷◌, ◌++◌, append_assoc}
-use mathlib.Core.Bool.{Bool, true, false, cond}
-use Prim.Native.Nat.{ℕ, ◌+◌, ◌≤◌, ◌<◌}
+use mathlib.Core.Bool.{Bool, true, false, cond, ◌&&◌}
+use Prim.Native.Nat.{ℕ, ◌+◌, ◌≤◌, ◌<◌, min}
 use native.Mathlib.Omega.{arith}
 use borrow.Author.Tests.{le-leb, lt-leb, leb-true, leb-false, ltb-true, ltb-false}
 use lib.Dec.{leb, ltb}
 use lib.ListN.{length, take, drop, length-drop, take-append-drop}
 use lib.Seq.{length-take-le, drop-drop, drop-append-le}
+use Rattle.std.specs.Prelude.{Ok, Err}
 use Rattle.words.specs.Words.{require◌else◌then◌}
 use Rattle.words.specs.Writes.{put}
 use Rattle.words.proofs.Laws.{put_front, lent_back}
@@ -16,32 +17,23 @@ use Rattle.format.specs.Limits.{size_fits, size_of, area, max_frames}
 use Rattle.format.specs.declared.Format.TheVariants.{Flc, Fli}
 use Rattle.format.specs.declared.Size.{Size}
 use Rattle.delay.specs.declared.Milliseconds.{Milliseconds}
-use Rattle.delay.specs.Delay.{jiffies}
-use Rattle.answer.specs.Answer.{Said, done, refused, number, told, told_written}
+use Rattle.answer.specs.Answer.{Said, done, refused, number, told_written, Written}
 use Rattle.answer.specs.declared.Refusal.{Refusal}
 use Rattle.answer.specs.declared.Refusal.TheVariants.{ShortSlice, BadSize, NoRoom, Cut, BadHeader, WrongTime}
-use Rattle.answer.specs.declared.Written.{Written}
-use Rattle.answer.specs.declared.Written.TheVariants.{Done, Refused}
 use Rattle.state.specs.State.{State, front, enough}
 use Rattle.state.specs.Outcome.{Memory, Outcome, lent_bytes, leaves, refuse, fitted}
 use Rattle.house_frame.specs.House.{house_frame}
 use Rattle.chunks.specs.Spans.{HEADER_BYTES}
+use Rattle.delay.specs.Delay.{jiffies}
 use Rattle.reel_header.specs.Written.{opened, opened_fli}
 use Rattle.reel_build.specs.declared.Reel.{Reel}
-use Rattle.reel_build.specs.declared.Built.{Built}
-use Rattle.reel_build.specs.Record.{reel_of, no_reel, new_reel, refused_with, builds, keeps}
+use Rattle.reel_build.specs.Record.{reel_of, no_reel, new_reel, refused_with, builds, keeps, built}
 use Rattle.reel_build.specs.Building.{opening, open_reel, open_fli, end_ok, most_bytes, longest, fits, appended, added, add_ok, add_frame}
+use Rattle.answer.specs.declared.Refused.{Refused}
 
--- a refusal leaves the memory m and the reel as they were
-
-pub refused_keeps : (x : Built) (r : Reel) (e : Refusal) (place : ℕ) → x ≡ refused_with r e place → (m : Memory)
-    → builds x.reel (leaves (told x.answer) m) ≡ keeps r e place m
-refused_keeps x r e place q m = ap (λ (y : Built). builds y.reel (leaves (told y.answer) m)) q
-
--- where there is no reel yet
-pub refused_none : (x : Built) (r : Reel) (e : Refusal) (place : ℕ) → x ≡ refused_with r e place → r ≡ no_reel → (m : Memory)
-    → builds x.reel (leaves (told x.answer) m) ≡ keeps no_reel e place m
-refused_none x r e place q n m = refused_keeps x r e place q m ∙ ap (λ (y : Reel). keeps y e place m) n
+-- a refusal leaves the memory m and the reel r as they were
+pub refused_keeps : (r : Reel) (e : Refusal) (place : ℕ) (m : Memory) → built r (refused_with r e place) m ≡ keeps r e place m
+refused_keeps r e place m = refl
 
 -- longest
 
@@ -50,6 +42,11 @@ module _ (room : ℕ) where
   longest_within =
       by_test (λ (t : Bool). (cond t room most_bytes ≤ room) × (cond t room most_bytes ≤ most_bytes)) (ltb room most_bytes)
       (λ e. let k = ltb-true room most_bytes e in (omega arith, omega arith)) (λ e. let k = ltb-false room most_bytes e in (omega arith, omega arith))
+
+  pub longest_min : min room most_bytes ≡ longest room
+  longest_min =
+      by_test (λ (t : Bool). min room most_bytes ≡ cond t room most_bytes) (ltb room most_bytes)
+      (λ e. let k = ltb-true room most_bytes e in omega arith) (λ e. let k = ltb-false room most_bytes e in omega arith)
 
   longest_most : (n : ℕ) → n ≤ room → n ≤ most_bytes → n ≤ longest room
   longest_most n h k = cond_holds (λ (m : ℕ). n ≤ m) (ltb room most_bytes) room most_bytes h k
@@ -98,14 +95,13 @@ module _ (end : ℕ) (f b : List ℕ) where
 
   -- what the answer tells, which is known to be this; x: what the bytes hold afterwards
   module _ (a : Written) (x : List ℕ) (o : leaves (told_written a) (lent_bytes x) ≡ appended end f b) where
-    pub append_done : (n : ℕ) → a ≡ Done n → (fits end f b ≡ true) × (n ≡ end + length f) × (x ≡ put b end f)
+    pub append_done : (n : ℕ) → a ≡ Ok n → (fits end f b ≡ true) × (n ≡ end + length f) × (x ≡ put b end f)
     append_done n q =
         room_done (fits end f b) (end + length f) b (put b end f) x n (ap (λ (y : Written). leaves (told_written y) (lent_bytes x)) (sym q) ∙ o)
 
-    pub append_refused : (e : Refusal) (place : ℕ) → a ≡ Refused e place → (fits end f b ≡ false)
-        × (refused (number e) place ≡ refused (number NoRoom) 0) × (x ≡ b)
-    append_refused e place q =
-        room_refused (fits end f b) (end + length f) b (put b end f) x (refused (number e) place) (number e) place refl
+    pub append_refused : (r : Refused) → a ≡ Err r → (fits end f b ≡ false) × (refused (number r.0) r.1 ≡ refused (number NoRoom) 0) × (x ≡ b)
+    append_refused r q =
+        room_refused (fits end f b) (end + length f) b (put b end f) x (refused (number r.0) r.1) (number r.0) r.1 refl
         (ap (λ (y : Written). leaves (told_written y) (lent_bytes x)) (sym q) ∙ o)
 
 -- the part of b from end on, k long, where the frame is written
@@ -132,7 +128,7 @@ module _ (b f : List ℕ) (end k : ℕ) (e : end + k ≡ longest (length b)) whe
     whole = take end b ++ (x ++ drop k (drop end b))
 
     -- the answer about the part is that about b, and what is done ends that much further on
-    pub append_more : (n : ℕ) → a ≡ Done n → (leaves (done ((end + n) ∷ [])) (lent_bytes whole) ≡ appended end f b) × (end + n ≤ most_bytes)
+    pub append_more : (n : ℕ) → a ≡ Ok n → (leaves (done ((end + n) ∷ [])) (lent_bytes whole) ≡ appended end f b) × (end + n ≤ most_bytes)
     append_more n q =
         let t = room_done (leb (length f) (length behind)) (length f) behind (put behind 0 f) x n
         (ap (λ (y : Written). leaves (told_written y) (lent_bytes x)) (sym q) ∙ o) in
@@ -143,12 +139,13 @@ module _ (b f : List ℕ) (end k : ℕ) (e : end + k ≡ longest (length b)) whe
           omega (arith, t.1, (fits_in end f b i).1),
         )
 
-    pub append_stopped : (r : Refusal) (place : ℕ) → a ≡ Refused r place → leaves (refused (number r) place) (lent_bytes whole) ≡ appended end f b
-    append_stopped r place q =
-        let t = room_refused (leb (length f) (length behind)) (length f) behind (put behind 0 f) x (refused (number r) place) (number r) place refl
+    pub append_stopped : (r : Refused) → a ≡ Err r → (y : Written) → y ≡ Err r → leaves (told_written y) (lent_bytes whole) ≡ appended end f b
+    append_stopped r q y h =
+        let t = room_refused (leb (length f) (length behind)) (length f) behind (put behind 0 f) x (refused (number r.0) r.1) (number r.0) r.1 refl
         (ap (λ (y : Written). leaves (told_written y) (lent_bytes x)) (sym q) ∙ o) in
-        let h : k < length f = omega (arith, leb-false (length f) (length behind) t.0, behind_long) in
-        ap₂ (λ (s : Said) (y : List ℕ). leaves s (lent_bytes (take end b ++ (y ++ drop k (drop end b))))) t.1 t.2
+        let long : k < length f = omega (arith, leb-false (length f) (length behind) t.0, behind_long) in
+        ap (λ (z : Written). leaves (told_written z) (lent_bytes whole)) h
+        ∙ ap₂ (λ (s : Said) (y : List ℕ). leaves s (lent_bytes (take end b ++ (y ++ drop k (drop end b))))) t.1 t.2
         ∙ ap (λ (y : List ℕ). refuse NoRoom 0 (lent_bytes y)) (ap (λ (y : List ℕ). take end b ++ y) (take-append-drop k (drop end b)) ∙ take-append-drop end b)
         ∙ rw (fits_not end f b (omega arith))
 
@@ -167,12 +164,11 @@ module _ (z : Size) (h b : List ℕ) where
   pub opening_short : length b < HEADER_BYTES → opening z h b ≡ keeps no_reel NoRoom 0 (lent_bytes b)
   opening_short k = rw (lt-leb HEADER_BYTES (length b) k)
 
-  -- x: what the first 128 bytes come back as; r: what the call gives
-  pub opening_done : length h ≡ HEADER_BYTES → HEADER_BYTES ≤ length b → (x : List ℕ) → x ≡ h → (r : Built) → r ≡ new_reel z
-      → builds r.reel (leaves (told r.answer) (lent_bytes (x ++ drop HEADER_BYTES b))) ≡ opening z h b
-  opening_done l k x i r n =
-      ap₂ (λ (y : Built) (d : List ℕ). builds y.reel (leaves (told y.answer) (lent_bytes d))) n (lent_back b x h 0 HEADER_BYTES i l)
-      ∙ rw (le-leb HEADER_BYTES (length b) k)
+  -- x: what the first 128 bytes come back as
+  pub opening_done : length h ≡ HEADER_BYTES → HEADER_BYTES ≤ length b → (x : List ℕ) → x ≡ h
+      → built no_reel (new_reel z) (lent_bytes (x ++ drop HEADER_BYTES b)) ≡ opening z h b
+  opening_done l k x i =
+      ap (λ (d : List ℕ). built no_reel (new_reel z) (lent_bytes d)) (lent_back b x h 0 HEADER_BYTES i l) ∙ rw (le-leb HEADER_BYTES (length b) k)
 
 -- each test as it came out
 module _ (w h : ℕ) (b : List ℕ) (t : Bool) where
@@ -201,19 +197,14 @@ module _ (r : Reel) (b : List ℕ) (s t : State) where
     add_size i = rw (e, i)
 
     module _ (i : size_fits r.size ≡ true) where
-      pub add_short : enough (area r.size) s ≡ false → add_frame r b s t ≡ keeps r ShortSlice 0 (lent_bytes b)
+      pub add_short : (enough (area r.size) s && enough (area r.size) t) ≡ false → add_frame r b s t ≡ keeps r ShortSlice 0 (lent_bytes b)
       unfolding add_frame
       add_short j = rw (e, i, j)
 
-      module _ (j : enough (area r.size) s ≡ true) where
-        pub add_next_short : enough (area r.size) t ≡ false → add_frame r b s t ≡ keeps r ShortSlice 0 (lent_bytes b)
-        unfolding add_frame
-        add_next_short k = rw (e, i, j, k)
-
-        module _ (k : enough (area r.size) t ≡ true) where
-          pub add_record : end_ok r.end (length b) ≡ false → add_frame r b s t ≡ keeps r Cut 0 (lent_bytes b)
-          unfolding add_frame
-          add_record l = rw (e, i, j, k, l)
+      pub add_record : enough (area r.size) s ≡ true → enough (area r.size) t ≡ true → end_ok r.end (length b) ≡ false
+          → add_frame r b s t ≡ keeps r Cut 0 (lent_bytes b)
+      unfolding add_frame
+      add_record j k l = rw (e, i, j, k, l)
 
 -- an add that has passed every check but the last
 pub record Passed (r : Reel) (b : List ℕ) (s t : State) : Type 0 where
@@ -229,22 +220,22 @@ pub add_passed : (r : Reel) (b : List ℕ) (s t : State) → Passed r b s t
 unfolding add_frame
 add_passed r b s t i = rw (i.taken, i.sized, i.shown, i.next, i.ended)
 
--- a: the answer about the frame put there; x: what the bytes hold afterwards; m: the pixels of a picture, as a range has them
-module _ (r : Reel) (b : List ℕ) (s t : State) (i : Passed r b s t) (a : Written) (x : List ℕ) (m : ℕ) (n : m ≡ area r.size)
-    (o : leaves (told_written a) (lent_bytes x) ≡ appended r.end (house_frame r.size (front m s) (front m t)) b) where
+-- a: the answer about the frame put there; x: what the bytes hold afterwards; m and n: what lies at the front of the lent pairs
+module _ (r : Reel) (b : List ℕ) (s t : State) (i : Passed r b s t) (a : Written) (x : List ℕ) (m n : State) (k : m ≡ front (area r.size) s)
+    (l : n ≡ front (area r.size) t) (o : leaves (told_written a) (lent_bytes x) ≡ appended r.end (house_frame r.size m n) b) where
   abbrev f : List ℕ
   f = house_frame r.size (front (area r.size) s) (front (area r.size) t)
 
   asked : leaves (told_written a) (lent_bytes x) ≡ appended r.end f b
-  asked = o ∙ ap (λ (y : ℕ). appended r.end (house_frame r.size (front y s) (front y t)) b) n
+  asked = o ∙ ap₂ (λ (u v : State). appended r.end (house_frame r.size u v) b) k l
 
-  pub add_done : (end : ℕ) → a ≡ Done end → builds (reel_of r.size (r.frames + 1) end false) (leaves (done []) (lent_bytes x)) ≡ add_frame r b s t
+  pub add_done : (end : ℕ) → a ≡ Ok end → builds (reel_of r.size (r.frames + 1) end false) (leaves (done []) (lent_bytes x)) ≡ add_frame r b s t
   add_done end q =
       let d = append_done r.end f b a x asked end q in
       ap₂ (λ (u : ℕ) (y : List ℕ). builds (reel_of r.size (r.frames + 1) u false) (leaves (done []) (lent_bytes y))) d.1 d.2
       ∙ sym (add_passed r b s t i ∙ rw d.0)
 
-  pub add_stopped : (e : Refusal) (place : ℕ) → a ≡ Refused e place → keeps r e place (lent_bytes x) ≡ add_frame r b s t
-  add_stopped e place q =
-      let d = append_refused r.end f b a x asked e place q in
+  pub add_stopped : (e : Refused) → a ≡ Err e → keeps r e.0 e.1 (lent_bytes x) ≡ add_frame r b s t
+  add_stopped e q =
+      let d = append_refused r.end f b a x asked e q in
       ap₂ (λ (u : Said) (y : List ℕ). builds r (leaves u (lent_bytes y))) d.1 d.2 ∙ sym (add_passed r b s t i ∙ rw d.0)

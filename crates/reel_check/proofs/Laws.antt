@@ -1,40 +1,37 @@
 -- Laws of the check of a reel, by the cases of its definition.
-use mathlib.Core.Path.{◌≡◌, sym, ap, ap₂, ◌∙◌}
+use mathlib.Core.Path.{◌≡◌, refl, sym, ap, ap₂, ◌∙◌}
 use mathlib.Core.List.{List}
 use mathlib.Core.Bool.{Bool, true, false, ◌&&◌, cond}
 use Prim.Native.Nat.{ℕ}
 use lib.ListN.{take}
+use Rattle.std.specs.Prelude.{Ok, Err, Result}
 use Rattle.words.specs.Words.{same}
 use Rattle.format.specs.Limits.{area}
 use Rattle.format.specs.declared.Size.{Size}
 use Rattle.delay.specs.declared.Milliseconds.{Milliseconds}
-use Rattle.answer.specs.Answer.{told}
-use Rattle.answer.specs.declared.Refusal.{Refusal}
+use Rattle.answer.specs.Answer.{placed, told, refused_at, Answer}
 use Rattle.answer.specs.declared.Refusal.TheVariants.{ShortSlice, BadRing}
-use Rattle.answer.specs.declared.Answer.{Answer}
-use Rattle.answer.specs.declared.Answer.TheVariants.{Done, Refused}
 use Rattle.state.specs.State.{State, enough, refilled}
-use Rattle.state.specs.Outcome.{lent_pairs, leaves, refuse}
+use Rattle.state.specs.Outcome.{Outcome, lent_pairs, leaves, refuse}
 use Rattle.chunks.specs.declared.Layout.TheVariants.{Loose}
-use Rattle.reel_header.specs.Head.{head_of}
-use Rattle.reel_header.specs.declared.Takes.TheVariants.{Both}
 use Rattle.reel_header.specs.declared.Head.{Head}
-use Rattle.reel_header.specs.declared.Head.TheVariants as head
-use Rattle.reel_play.specs.declared.Ran.{Ran}
-use Rattle.reel_play.specs.declared.Ran.TheVariants.{Stopped, To}
-use Rattle.reel_play.specs.Play.{Shown, play_all}
+use Rattle.reel_header.specs.Head.{head_of, head_with, Headed}
+use Rattle.reel_header.specs.declared.Takes.TheVariants.{Both}
+use Rattle.reel_play.specs.Play.{Shown, play_all, Ran}
 use Rattle.reel_check.specs.Check.{ringed, ring_answer, checked_by, after_head, check_reel}
+use Rattle.answer.specs.declared.Refused.{Refused}
+use Rattle.chunks.specs.Spans.{frame_to}
 
 -- the ring
 
-pub ring_stopped : (x : Shown) (e : Refusal) (place : ℕ) → x.result ≡ Stopped e place → ring_answer x ≡ Refused e place
-ring_stopped x e place q = ap (λ (r : Ran). ringed r x.last x.one) q
+pub ring_stopped : (x : Shown) (r : Refused) → x.result ≡ Err r → ring_answer x ≡ Err r
+ring_stopped x r q = ap (λ (y : Ran). ringed y x.last x.one) q
 
 -- r: the result of comparing the states, found to be k
-pub ring_compared : (x : Shown) (ring next : ℕ) → x.result ≡ To ring next → (r k : Bool)
-    → r ≡ (same x.last.picture x.one.picture && same x.last.palette x.one.palette) → r ≡ k → ring_answer x ≡ cond k Done (Refused BadRing ring)
+pub ring_compared : (x : Shown) (ring next : ℕ) → x.result ≡ Ok (frame_to ring next) → (r k : Bool)
+    → r ≡ (same x.last.picture x.one.picture && same x.last.palette x.one.palette) → r ≡ k → ring_answer x ≡ cond k (Ok tt) (Err (refused_at BadRing ring))
 ring_compared x ring next q r k e f =
-    ap (λ (z : Ran). ringed z x.last x.one) q ∙ ap (λ (t : Bool). cond t Done (Refused BadRing ring)) (sym e ∙ f)
+    ap (λ (z : Ran). ringed z x.last x.one) q ∙ ap (λ (t : Bool). cond t (Ok tt) (Err (refused_at BadRing ring))) (sym e ∙ f)
 
 -- what the check of frames tells where they came to x: its answer and both states
 pub ring_told : (x y : Shown) → x ≡ y → (a : Answer) → ring_answer x ≡ a
@@ -44,24 +41,28 @@ ring_told x y e a q = record { answer = sym q ∙ ap ring_answer e; first = ap (
 -- the check of a reel
 
 module _ (b : List ℕ) (first second : State) where
-  pub check_fault : (e : Refusal) → head_of Both b ≡ head.Fault e → check_reel b first second ≡ refuse e 0 (lent_pairs first second)
+  -- what follows a header, whose refusal has its place
+  abbrev after_placed : Result Head Refused → Outcome
+  after_placed (Err r) = refuse r.0 r.1 (lent_pairs first second)
+  after_placed (Ok h) = after_head b (Ok h) first second
+
+  pub check_fault : (r : Refused) → placed 0 (head_of Both b) ≡ Err r → check_reel b first second ≡ refuse r.0 r.1 (lent_pairs first second)
   unfolding check_reel
-  check_fault e k = ap (λ (x : Head). after_head b x first second) k
+  check_fault r q = go (head_of Both b) ∙ ap after_placed q
+    where
+      go : (x : Headed) → after_head b x first second ≡ after_placed (placed 0 x)
+      go (Err e) = refl
+      go (Ok h) = refl
 
-  module _ (z : Size) (count size : ℕ) (speed : Milliseconds) (k : head_of Both b ≡ head.Reel z count size speed) where
-    pub check_short : enough (area z) first ≡ false → check_reel b first second ≡ refuse ShortSlice 0 (lent_pairs first second)
+  module _ (z : Size) (count size : ℕ) (speed : Milliseconds) (k : head_of Both b ≡ Ok (head_with z count size speed)) where
+    pub check_short : (enough (area z) first && enough (area z) second) ≡ false → check_reel b first second ≡ refuse ShortSlice 0 (lent_pairs first second)
     unfolding check_reel
-    check_short i = ap (λ (x : Head). after_head b x first second) k ∙ rw i
-
-    pub check_second_short : enough (area z) first ≡ true → enough (area z) second ≡ false → check_reel b first second
-        ≡ refuse ShortSlice 0 (lent_pairs first second)
-    unfolding check_reel
-    check_second_short i j = ap (λ (x : Head). after_head b x first second) k ∙ rw (i, j)
+    check_short i = ap (λ (x : Headed). after_head b x first second) k ∙ rw i
 
     pub check_played : enough (area z) first ≡ true → enough (area z) second ≡ true
         → check_reel b first second ≡ checked_by (area z) (play_all Loose count z (take size b)) first second
     unfolding check_reel
-    check_played i j = ap (λ (x : Head). after_head b x first second) k ∙ rw (i, j)
+    check_played i j = ap (λ (x : Headed). after_head b x first second) k ∙ rw (i, j)
 
     -- the pairs' fronts hold the states that playing gave; m and n: the lengths of the ranges up to the area and up to size
     pub check_laid : enough (area z) first ≡ true → enough (area z) second ≡ true → (m n : ℕ) → m ≡ area z → n ≡ size → (a : Answer) (s t : State)

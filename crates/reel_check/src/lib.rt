@@ -11,21 +11,17 @@ ghost use Rattle.chunks.specs.Spans.{HEADER_BYTES as header_bytes};
 ghost use Rattle.reel_play.specs.Play.{play_all};
 ghost use Rattle.reel_check.specs.Check.{ring_answer, check_reel};
 
-use answer::{Answer, Refusal};
+use answer::{Refusal, Refused};
 use chunks::Layout;
 use format::{PALETTE_BYTES, Size};
-use reel_header::{Head, Takes};
-use reel_play::Ran;
+use reel_header::Takes;
 
-// Whether two pairs hold the same state.
+// Whether two pairs hold the same state, as the slices' own equality says it.
 fn same_state(picture: &[u8], palette: &[u8], picture2: &[u8], palette2: &[u8]) -> bool
     requires { (length picture.now ≡ length picture2.now) × (length palette.now ≡ length palette2.now) }
     ensures { result ≡ (same picture.now picture2.now && same palette.now palette2.now) }
 {
-    if words::same_bytes(picture, picture2) {
-        return words::same_bytes(palette, palette2);
-    }
-    false
+    words::same_bytes(picture, picture2) && words::same_bytes(palette, palette2)
 }
 
 // Plays the reel b of count frames and its ring, and compares the ring's state with that of frame 1.
@@ -37,13 +33,13 @@ fn check_frames(
     b: &[u8],
     count: usize,
     size: Size,
-) -> Answer
+) -> Result<(), Refused>
     requires { (header_bytes ≤ length b.now) × Exact size (state picture.old palette.old) × Exact size (state picture2.old palette2.old) }
     ensures answer { result ≡ ring_answer (play_all Loose count size b.now) }
     ensures first { state picture.new palette.new ≡ (play_all Loose count size b.now).last }
     ensures second { state picture2.new palette2.new ≡ (play_all Loose count size b.now).one }
 {
-    match reel_play::play_all(
+    let ring = reel_play::play_all(
         picture,
         palette,
         picture2,
@@ -52,15 +48,11 @@ fn check_frames(
         Layout::Loose,
         count,
         size,
-    ) {
-        Ran::Stopped(e, place) => Answer::Refused(e, place),
-        Ran::To { last, next: _ } => {
-            if same_state(picture, palette, picture2, palette2) {
-                return Answer::Done;
-            }
-            Answer::Refused(Refusal::BadRing, last)
-        }
+    )?;
+    if same_state(picture, palette, picture2, palette2) {
+        return Ok(());
     }
+    Err(Refused(Refusal::BadRing, ring.from))
 }
 
 // Checks a whole reel. Both pairs are set once the checks up to refusal 1 have passed.
@@ -70,34 +62,24 @@ pub fn check_reel(
     first_palette: &mut [u8],
     second_picture: &mut [u8],
     second_palette: &mut [u8],
-) -> Answer
+) -> Result<(), Refused>
     ensures { leaves (told result) (lent_pairs (state first_picture.new first_palette.new) (state second_picture.new second_palette.new))
         ≡ check_reel bytes.now (state first_picture.old first_palette.old) (state second_picture.old second_palette.old) }
 {
-    match reel_header::head_of(Takes::Both, bytes) {
-        Head::Fault(e) => Answer::Refused(e, 0),
-        Head::Reel {
-            picture,
-            frames,
-            size,
-            speed: _,
-        } => {
-            let n = picture.width * picture.height;
-            if !state::holds(first_picture.len(), first_palette.len(), n) {
-                return Answer::Refused(Refusal::ShortSlice, 0);
-            }
-            if !state::holds(second_picture.len(), second_palette.len(), n) {
-                return Answer::Refused(Refusal::ShortSlice, 0);
-            }
-            check_frames(
-                &mut first_picture[0..n],
-                &mut first_palette[0..PALETTE_BYTES],
-                &mut second_picture[0..n],
-                &mut second_palette[0..PALETTE_BYTES],
-                &bytes[0..size],
-                frames,
-                picture,
-            )
-        }
+    let head = answer::placed(reel_header::head_of(Takes::Both, bytes), 0)?;
+    let n = head.picture.width * head.picture.height;
+    if !state::holds(first_picture.len(), first_palette.len(), n)
+        || !state::holds(second_picture.len(), second_palette.len(), n)
+    {
+        return Err(Refused(Refusal::ShortSlice, 0));
     }
+    check_frames(
+        &mut first_picture[..n],
+        &mut first_palette[..PALETTE_BYTES],
+        &mut second_picture[..n],
+        &mut second_palette[..PALETTE_BYTES],
+        &bytes[..head.size],
+        head.frames,
+        head.picture,
+    )
 }

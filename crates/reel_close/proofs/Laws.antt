@@ -1,44 +1,41 @@
 -- Laws of closing a reel: the ring, the close's own playing, and the order of the checks.
 use mathlib.Core.Path.{◌≡◌, refl, sym, ap, ap₂, ◌∙◌}
 use mathlib.Core.List.{List, []}
-use mathlib.Core.Bool.{Bool, true, false, cond}
+use mathlib.Core.Bool.{Bool, true, false, cond, ◌&&◌}
 use Prim.Native.Nat.{ℕ, ◌+◌, ◌-◌, ◌≤◌, ◌<◌}
 use native.Mathlib.Omega.{arith}
 use borrow.Author.Tests.{le-leb, lt-leb, leb-true}
 use lib.Dec.{leb}
 use lib.ListN.{length, take}
+use Rattle.std.specs.Prelude.{Ok, Err}
 use Rattle.words.specs.Writes.{put}
 use Rattle.words.proofs.Tests.{both_true}
 use Rattle.format.specs.Limits.{size_fits, area, max_frames}
 use Rattle.format.specs.declared.Size.{Size}
-use Rattle.answer.specs.Answer.{Said, done, told_written}
-use Rattle.answer.specs.declared.Refusal.{Refusal}
+use Rattle.answer.specs.Answer.{Said, done, told_written, refused_at, Written}
 use Rattle.answer.specs.declared.Refusal.TheVariants.{ShortSlice, BadSize, Cut, WrongTime}
-use Rattle.answer.specs.declared.Written.{Written}
-use Rattle.answer.specs.declared.Written.TheVariants.{Done, Refused}
 use Rattle.state.specs.State.{State, blank, enough, refilled}
 use Rattle.state.specs.Outcome.{lent_bytes, lent_bytes_pairs, leaves}
 use Rattle.chunks.specs.declared.Layout.{Layout}
 use Rattle.chunks.specs.declared.Layout.TheVariants.{Packed}
-use Rattle.chunks.specs.Spans.{HEADER_BYTES}
+use Rattle.chunks.specs.Spans.{HEADER_BYTES, frame_to}
 use Rattle.house_frame.specs.House.{house_frame}
 use Rattle.reel_header.specs.Written.{second_at, closed_header}
-use Rattle.reel_play.specs.Play.{ran, one_frame, Shown, shown, play_all}
-use Rattle.reel_play.specs.declared.Ran.{Ran}
-use Rattle.reel_play.specs.declared.Ran.TheVariants.{Stopped, To}
+use Rattle.reel_play.specs.Play.{ran, one_frame, Shown, shown, play_all, Ran}
 use Rattle.reel_play.proofs.Laws.{one_in, all_stopped}
 use Rattle.reel_build.specs.declared.Reel.{Reel}
 use Rattle.reel_build.specs.Record.{reel_of, ReelOutcome, builds, keeps}
 use Rattle.reel_build.specs.Building.{end_ok, appended}
 use Rattle.reel_build.proofs.Laws.{append_done, append_refused}
 use Rattle.reel_close.specs.Closing.{own_playing, ring_written, ring_after, close_frames, with_pairs, closed_by, close_ok, close_reel}
+use Rattle.answer.specs.declared.Refused.{Refused}
 
 -- ring_written
 
 -- a: the answer about the ring put there; x: the bytes with it
 module _ (r : Reel) (f b : List ℕ) (a : Written) (x : List ℕ) (o : leaves (told_written a) (lent_bytes x) ≡ appended r.end f b) where
   -- y: the bytes with the header closed too
-  pub ring_done : (n : ℕ) → a ≡ Done n → (second : ℕ) (y : List ℕ) → second ≡ second_at b → y ≡ closed_header r.size.format n r.frames second x
+  pub ring_done : (n : ℕ) → a ≡ Ok n → (second : ℕ) (y : List ℕ) → second ≡ second_at b → y ≡ closed_header r.size.format n r.frames second x
       → builds (reel_of r.size r.frames n true) (leaves (done []) (lent_bytes y)) ≡ ring_written r f b
   ring_done n q second y s e =
       let t = append_done r.end f b a x o n q in
@@ -47,27 +44,27 @@ module _ (r : Reel) (f b : List ℕ) (a : Written) (x : List ℕ) (o : leaves (t
       ∙ ap (λ (k : ℕ). closed_header r.size.format (r.end + length f) r.frames k (put b r.end f)) s)
       ∙ rw t.0
 
-  pub ring_refused : (e : Refusal) (place : ℕ) → a ≡ Refused e place → keeps r e place (lent_bytes x) ≡ ring_written r f b
-  ring_refused e place q =
-      let t = append_refused r.end f b a x o e place q in
+  pub ring_refused : (e : Refused) → a ≡ Err e → keeps r e.0 e.1 (lent_bytes x) ≡ ring_written r f b
+  ring_refused e q =
+      let t = append_refused r.end f b a x o e q in
       ap₂ (λ (s : Said) (z : List ℕ). builds r (leaves s (lent_bytes z))) t.1 t.2 ∙ rw t.0
 
 -- own_playing
 
 -- playing that came to its end has met frame 1
-pub all_long : (layout : Layout) (more : ℕ) (z : Size) (b : List ℕ) (last next : ℕ) → HEADER_BYTES ≤ length b → (play_all layout more z b).result ≡ To last next
-    → HEADER_BYTES + 16 ≤ length b
+pub all_long : (layout : Layout) (more : ℕ) (z : Size) (b : List ℕ) (last next : ℕ) → HEADER_BYTES ≤ length b
+    → (play_all layout more z b).result ≡ Ok (frame_to last next) → HEADER_BYTES + 16 ≤ length b
 all_long layout more z b last next long e = by (one_frame layout z b HEADER_BYTES (blank (area z))).result refl
   where
     by : (x : Ran) → (one_frame layout z b HEADER_BYTES (blank (area z))).result ≡ x → HEADER_BYTES + 16 ≤ length b
-    by (Stopped f place) q =
+    by (Err r) q =
         let t = (one_frame layout z b HEADER_BYTES (blank (area z))).after in
-        let s = ap (λ (y : Shown). y.result) (all_stopped layout more z b t f place (ap (λ (y : Ran). ran y t) q)) in
+        let s = ap (λ (y : Shown). y.result) (all_stopped layout more z b t r (ap (λ (y : Ran). ran y t) q)) in
         let z : ◌≡◌ {A = ℕ} 0 1 = cc in absurd (omega arith)
-    by (To from end) q = let i = one_in layout z b HEADER_BYTES (blank (area z)) long (To from end) q in omega (arith, i.0, i.1, i.2)
+    by (Ok f) q = let i = one_in layout z b HEADER_BYTES (blank (area z)) long (Ok f) q in omega (arith, i.0, i.1, i.2)
 
 module _ (r : Reel) (b : List ℕ) where
-  pub own_record : end_ok r.end (length b) ≡ false → own_playing r b ≡ shown (Stopped Cut 0) (blank (area r.size)) (blank (area r.size))
+  pub own_record : end_ok r.end (length b) ≡ false → own_playing r b ≡ shown (Err (refused_at Cut 0)) (blank (area r.size)) (blank (area r.size))
   unfolding own_playing
   own_record e = rw e
 
@@ -90,10 +87,10 @@ module _ (r : Reel) (b : List ℕ) where
 
   -- x: what the playing came to, and the states of both pairs
   module _ (x : Ran) (s t : State) where
-    pub frames_stopped : (e : Refusal) (place : ℕ) → x ≡ Stopped e place → keeps r e place (lent_bytes b) ≡ close_frames r b (shown x s t)
-    frames_stopped e place q = ap (λ (y : Ran). ring_after r b y s t) (sym q)
+    pub frames_stopped : (e : Refused) → x ≡ Err e → keeps r e.0 e.1 (lent_bytes b) ≡ close_frames r b (shown x s t)
+    frames_stopped e q = ap (λ (y : Ran). ring_after r b y s t) (sym q)
 
-    module _ (from next : ℕ) (q : x ≡ To from next) where
+    module _ (from next : ℕ) (q : x ≡ Ok (frame_to from next)) where
       abbrev by_end : Bool → ReelOutcome
       by_end c = cond c (ring_written r (house_frame r.size s t) b) (keeps r Cut 0 (lent_bytes b))
 
@@ -116,14 +113,10 @@ module _ (r : Reel) (b : List ℕ) (first second : State) where
     close_size i = rw (e, i)
 
     module _ (i : size_fits r.size ≡ true) where
-      pub close_short : enough (area r.size) first ≡ false → close_reel r b first second ≡ keeps r ShortSlice 0 (lent_bytes_pairs b first second)
+      pub close_short : (enough (area r.size) first && enough (area r.size) second) ≡ false
+          → close_reel r b first second ≡ keeps r ShortSlice 0 (lent_bytes_pairs b first second)
       unfolding close_reel
       close_short j = rw (e, i, j)
-
-      module _ (j : enough (area r.size) first ≡ true) where
-        pub close_second_short : enough (area r.size) second ≡ false → close_reel r b first second ≡ keeps r ShortSlice 0 (lent_bytes_pairs b first second)
-        unfolding close_reel
-        close_second_short k = rw (e, i, j, k)
 
 -- a close that has passed the checks up to 1
 pub record Passed (r : Reel) (first second : State) : Type 0 where
@@ -147,7 +140,7 @@ module _ (r : Reel) (b : List ℕ) (first second : State) (i : Passed r first se
       ∙ ap (λ (y : ReelOutcome). with_pairs y (refilled (area r.size) (own_playing r b).last first) (refilled (area r.size) (own_playing r b).one second)) eo
       ∙ sym close_played
 
--- closeOk: how many frames a reel has that may be closed
+-- close_ok: how many frames a reel has that may be closed
 pub close_few : (frames : ℕ) (shut : Bool) → close_ok frames shut ≡ true → (1 ≤ frames) × (frames ≤ max_frames)
 close_few frames true e = let z : ◌≡◌ {A = ℕ} 0 1 = cc in absurd (omega arith)
 close_few frames false e =

@@ -1,18 +1,16 @@
 -- Closing a reel: the record, the answer, and what the lent bytes and both working pairs hold afterwards.
-use Rattle.std.specs.Prelude.{ℕ, ◌+◌, ◌-◌, List, [], Bool, true, false, ◌&&◌, cond, leb, length, take}
+use Rattle.std.specs.Prelude.{ℕ, ◌+◌, ◌-◌, List, [], Bool, true, false, ◌&&◌, cond, leb, length, take, Ok, Err}
 use Rattle.words.specs.Words.{require◌else◌then◌}
 use Rattle.words.specs.Writes.{put}
 use Rattle.format.specs.Limits.{size_fits, area, max_frames}
-use Rattle.answer.specs.Answer.{done}
+use Rattle.answer.specs.Answer.{done, refused_at}
 use Rattle.answer.specs.declared.Refusal.TheVariants.{ShortSlice, BadSize, NoRoom, Cut, WrongTime}
 use Rattle.state.specs.State.{State, blank, enough, refilled}
 use Rattle.state.specs.Outcome.{lent_bytes, lent_bytes_pairs, leaves}
 use Rattle.chunks.specs.declared.Layout.TheVariants.{Packed}
 use Rattle.house_frame.specs.House.{house_frame}
 use Rattle.reel_header.specs.Written.{second_at, closed_header}
-use Rattle.reel_play.specs.Play.{Shown, shown, play_all}
-use Rattle.reel_play.specs.declared.Ran.{Ran}
-use Rattle.reel_play.specs.declared.Ran.TheVariants.{Stopped, To}
+use Rattle.reel_play.specs.Play.{Shown, shown, play_all, Ran}
 use Rattle.reel_build.specs.declared.Reel.{Reel}
 use Rattle.reel_build.specs.Record.{reel_of, ReelOutcome, builds, keeps}
 use Rattle.reel_build.specs.Building.{end_ok, fits}
@@ -22,7 +20,7 @@ use Rattle.reel_build.specs.Building.{end_ok, fits}
 unfoldable pub own_playing : Reel → List ℕ → Shown
 unfolding play_all
 own_playing reel bytes =
-    require end_ok reel.end (length bytes) else shown (Stopped Cut 0) (blank (area reel.size)) (blank (area reel.size)) then
+    require end_ok reel.end (length bytes) else shown (Err (refused_at Cut 0)) (blank (area reel.size)) (blank (area reel.size)) then
     play_all Packed (reel.frames - 1) reel.size (take reel.end bytes)
 
 -- the ring f put at the record's end and the header closed, or refusal 3
@@ -34,9 +32,9 @@ ring_written r f b =
 
 -- "frames that end before it are 4, place 0; then 3"; "The ring is written from the state in which the close's own playing ends", to that after frame 1
 abbrev pub ring_after : Reel → List ℕ → Ran → State → State → ReelOutcome
-ring_after r b (Stopped e place) last one = keeps r e place (lent_bytes b)
-ring_after r b (To from next) last one =
-    require leb r.end next else keeps r Cut 0 (lent_bytes b) then
+ring_after r b (Err e) last one = keeps r e.0 e.1 (lent_bytes b)
+ring_after r b (Ok f) last one =
+    require leb r.end f.end else keeps r Cut 0 (lent_bytes b) then
     ring_written r (house_frame r.size last one) b
 
 -- the bytes after the close's own playing, which came to this

@@ -7,6 +7,7 @@ use native.Mathlib.Omega.{arith}
 use borrow.Author.Tests.{le-leb, eq-eqb, leb-true}
 use lib.ListN.{length, drop, replicate}
 use lib.Dec.{leb, eqb}
+use Rattle.std.specs.Prelude.{Ok, Err}
 use Rattle.words.specs.Words.{require◌else◌then◌, u16_at, u32_at, le16, le32}
 use Rattle.words.specs.Writes.{put}
 use Rattle.words.proofs.There.{there_le16, there_le32}
@@ -24,9 +25,7 @@ use Rattle.chunks.specs.Spans.{HEADER_BYTES}
 use Rattle.chunks.proofs.Headers.{required}
 use Rattle.reel_header.specs.declared.Takes.{Takes}
 use Rattle.reel_header.specs.declared.Takes.TheVariants.{FlcOnly, Both}
-use Rattle.reel_header.specs.declared.Head.{Head}
-use Rattle.reel_header.specs.declared.Head.TheVariants as head
-use Rattle.reel_header.specs.Head.{SIZE_AT, MAGIC_AT, FRAMES_AT, WIDTH_AT, HEIGHT_AT, DEPTH_AT, FLAGS_AT, SPEED_AT, CREATOR_AT, UPDATER_AT, ASPECTX_AT, ASPECTY_AT, DEPTH, finished, form_ok, magic_ok, format_of, delay_in, delay_at, format_at, size_at, head_of}
+use Rattle.reel_header.specs.Head.{SIZE_AT, MAGIC_AT, FRAMES_AT, WIDTH_AT, HEIGHT_AT, DEPTH_AT, FLAGS_AT, SPEED_AT, CREATOR_AT, UPDATER_AT, ASPECTX_AT, ASPECTY_AT, DEPTH, finished, form_ok, magic_ok, format_of, delay_in, delay_at, format_at, size_at, head_of, head_with, Headed}
 use Rattle.reel_header.specs.Written.{aspect, FLIB, blank_header, opened, opened_fli, opened_in, second_at, flagged, closed_header, header_in}
 
 -- head_of
@@ -37,20 +36,20 @@ pub head_is : (takes : Takes) (b : List ℕ) (magic size : ℕ) (z : Size) (fram
     ≡ u16_at b FLAGS_AT → speed ≡ delay_at z.format b
     → leb HEADER_BYTES (length b) ≡ long → magic_ok takes magic ≡ taken → leb HEADER_BYTES size ≡ least → leb size (length b) ≡ most
     → size_fits z ≡ fits → form_ok z.format depth frames flags ≡ form
-    → (require long else head.Fault Cut then
-    require taken else head.Fault WrongType then
-    require least else head.Fault SmallSize then
-    require most else head.Fault Cut then
-    require fits else head.Fault BadSize then
-    require form else head.Fault BadHeader then
-    head.Reel z frames size speed) ≡ head_of takes b
+    → (require long else Err Cut then
+    require taken else Err WrongType then
+    require least else Err SmallSize then
+    require most else Err Cut then
+    require fits else Err BadSize then
+    require form else Err BadHeader then
+    Ok (head_with z frames size speed)) ≡ head_of takes b
 unfolding head_of
 head_is takes b magic size z frames depth flags speed long taken least most fits form em es ez ef ed eg ev e₁ e₂ e₃ e₄ e₅ e₆ =
     rw (ev, sym e₁, sym e₂, sym e₃, sym e₄, sym e₅, sym e₆, em, es, ef, ed, eg, ez)
 
 -- the header of a reel without a fault, and that each check has passed
-abbrev pub whole : List ℕ → Head
-whole b = head.Reel (size_at b) (u16_at b FRAMES_AT) (u32_at b SIZE_AT) (delay_at (format_at b) b)
+abbrev pub whole : List ℕ → Headed
+whole b = Ok (head_with (size_at b) (u16_at b FRAMES_AT) (u32_at b SIZE_AT) (delay_at (format_at b) b))
 
 pub record Passed (takes : Takes) (b : List ℕ) : Type 0 where
   pub long : leb HEADER_BYTES (length b) ≡ true
@@ -66,7 +65,7 @@ module _ (takes : Takes) (b : List ℕ) where
       sym (head_is takes b _ _ _ _ _ _ _ true true true true true true refl refl refl refl refl refl refl p.long p.magic p.least p.most p.sized p.form)
 
   -- what holds of each fault, and of a reel where each check has passed, holds of the header
-  pub head_by : (P : Head → Type 0) → ((e : Refusal) → P (head.Fault e)) → (Passed takes b → P (whole b)) → (x : Head) → head_of takes b ≡ x → P x
+  pub head_by : (P : Headed → Type 0) → ((e : Refusal) → P (Err e)) → (Passed takes b → P (whole b)) → (x : Headed) → head_of takes b ≡ x → P x
   unfolding head_of
   head_by P fault reel x e =
       subst P e
@@ -86,9 +85,9 @@ pub record ReelIn (b : List ℕ) (z : Size) (frames size : ℕ) : Type 0 where
   pub some_frames : 1 ≤ frames
   pub few_frames : frames ≤ max_frames
 
-abbrev pub HeadIn : List ℕ → Head → Type 0
-HeadIn b (head.Fault e) = Unit {0}
-HeadIn b (head.Reel z frames size speed) = ReelIn b z frames size
+abbrev pub HeadIn : List ℕ → Headed → Type 0
+HeadIn b (Err e) = Unit {0}
+HeadIn b (Ok h) = ReelIn b h.picture h.frames h.size
 
 -- the parts of a form that is right
 form_in : (f : Format) (depth frames flags : ℕ) → form_ok f depth frames flags ≡ true → (1 ≤ frames) × (frames ≤ max_frames)
@@ -97,7 +96,7 @@ form_in f depth frames flags e =
     let y = both_true (leb 1 frames) (leb frames max_frames && eqb flags (finished f)) x in
     (leb-true 1 frames y.0, leb-true frames max_frames (both_true (leb frames max_frames) (eqb flags (finished f)) y.1).0)
 
-pub head_in : (takes : Takes) (b : List ℕ) (x : Head) → head_of takes b ≡ x → HeadIn b x
+pub head_in : (takes : Takes) (b : List ℕ) (x : Headed) → head_of takes b ≡ x → HeadIn b x
 head_in takes b = head_by takes b (HeadIn b) (λ e. tt) (λ p.
     let f = form_in (format_at b) (u16_at b DEPTH_AT) (u16_at b FRAMES_AT) (u16_at b FLAGS_AT) p.form in
     record {
@@ -109,13 +108,13 @@ head_in takes b = head_by takes b (HeadIn b) (λ e. tt) (λ p.
     })
 
 -- b has the header x too, where x has no fault
-abbrev pub Gives : Takes → List ℕ → Head → Type 0
-Gives takes b (head.Fault e) = Unit {0}
-Gives takes b (head.Reel z frames size speed) = head_of takes b ≡ head.Reel z frames size speed
+abbrev pub Gives : Takes → List ℕ → Headed → Type 0
+Gives takes b (Err e) = Unit {0}
+Gives takes b (Ok h) = head_of takes b ≡ Ok h
 
 -- what is taken where FLC alone is taken is taken where both are
-pub head_flc : (b : List ℕ) (z : Size) (frames size : ℕ) (speed : Milliseconds) → head_of FlcOnly b ≡ head.Reel z frames size speed → head_of Both b
-    ≡ head.Reel z frames size speed
+pub head_flc : (b : List ℕ) (z : Size) (frames size : ℕ) (speed : Milliseconds) → head_of FlcOnly b ≡ Ok (head_with z frames size speed) → head_of Both b
+    ≡ Ok (head_with z frames size speed)
 head_flc b z frames size speed = head_by FlcOnly b (Gives Both b) (λ e. tt) (λ p.
     head_whole Both b (record {
       long = p.long;
@@ -124,7 +123,7 @@ head_flc b z frames size speed = head_by FlcOnly b (Gives Both b) (λ e. tt) (λ
       most = p.most;
       sized = p.sized;
       form = p.form;
-    })) (head.Reel z frames size speed)
+    })) (Ok (head_with z frames size speed))
 
 -- opened, opened_fli
 
@@ -243,7 +242,7 @@ module _ (z : Size) (size frames speed second : ℕ) (x : List ℕ) where
 
   pub header_read : size_fits z ≡ true → 1 ≤ frames → frames ≤ max_frames → size < 4294967296 → HEADER_BYTES ≤ size → size ≤ length file
       → head_of Both (header_in z.format size frames z.width z.height speed second ++ x)
-      ≡ head.Reel z frames size (delay_at z.format (header_in z.format size frames z.width z.height speed second ++ x))
+      ≡ Ok (head_with z frames size (delay_at z.format (header_in z.format size frames z.width z.height speed second ++ x)))
   header_read fits some few word least most =
       let f = z.format in
       let magic = field MAGIC_AT (magic_of f) _ refl in

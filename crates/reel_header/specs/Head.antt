@@ -1,5 +1,5 @@
 -- The 128-byte header of a reel as a reader checks it (document 001, "The FLC file header"; document 01, "Refusal numbers"; document 02, Req 06).
-use Rattle.std.specs.Prelude.{ℕ, List, Bool, ◌&&◌, ◌||◌, cond, length, leb, eqb}
+use Rattle.std.specs.Prelude.{ℕ, List, Bool, ◌&&◌, ◌||◌, cond, length, leb, eqb, Ok, Err, Result}
 use Rattle.words.specs.Words.{require◌else◌then◌, u16_at, u32_at}
 use Rattle.format.specs.Limits.{size_fits, size_of, max_frames}
 use Rattle.format.specs.Format.{FLC_MAGIC, FLI_MAGIC}
@@ -10,10 +10,10 @@ use Rattle.delay.specs.declared.Milliseconds.{Milliseconds}
 use Rattle.delay.specs.Delay.{jiffies, milliseconds, in_milliseconds}
 use Rattle.answer.specs.declared.Refusal.TheVariants.{Cut, WrongType, SmallSize, BadSize, BadHeader}
 use Rattle.chunks.specs.Spans.{HEADER_BYTES}
+use Rattle.reel_header.specs.declared.Head.{Head}
 use Rattle.reel_header.specs.declared.Takes.{Takes}
 use Rattle.reel_header.specs.declared.Takes.TheVariants.{FlcOnly, Both}
-use Rattle.reel_header.specs.declared.Head.{Head}
-use Rattle.reel_header.specs.declared.Head.TheVariants.{Fault, Reel}
+use Rattle.answer.specs.declared.Refusal.{Refusal}
 
 -- where document 001's table has the fields: size, speed, created, creator, updated, updater and both oframes have 4 bytes, the others 2
 abbrev pub SIZE_AT : ℕ
@@ -97,13 +97,21 @@ format_at b = format_of (u16_at b MAGIC_AT)
 abbrev pub size_at : List ℕ → Size
 size_at b = size_of (format_at b) (u16_at b WIDTH_AT) (u16_at b HEIGHT_AT)
 
+-- what a header says: pictures of this size, so many frames, a file of so many bytes, and this delay
+abbrev pub head_with : Size → ℕ → ℕ → Milliseconds → Head
+head_with picture frames size speed = record { picture = picture; frames = frames; size = size; speed = speed }
+
+-- a reel's header, or its first fault
+abbrev pub Headed : Type 0
+Headed = Result Head Refusal
+
 -- "Reel: 4, 5, size field 6 then 4, 2, 14"
-unfoldable pub head_of : Takes → List ℕ → Head
+unfoldable pub head_of : Takes → List ℕ → Headed
 head_of takes b =
-    require leb HEADER_BYTES (length b) else Fault Cut then
-    require magic_ok takes (u16_at b MAGIC_AT) else Fault WrongType then
-    require leb HEADER_BYTES (u32_at b SIZE_AT) else Fault SmallSize then
-    require leb (u32_at b SIZE_AT) (length b) else Fault Cut then
-    require size_fits (size_at b) else Fault BadSize then
-    require form_ok (format_at b) (u16_at b DEPTH_AT) (u16_at b FRAMES_AT) (u16_at b FLAGS_AT) else Fault BadHeader then
-    Reel (size_at b) (u16_at b FRAMES_AT) (u32_at b SIZE_AT) (delay_at (format_at b) b)
+    require leb HEADER_BYTES (length b) else Err Cut then
+    require magic_ok takes (u16_at b MAGIC_AT) else Err WrongType then
+    require leb HEADER_BYTES (u32_at b SIZE_AT) else Err SmallSize then
+    require leb (u32_at b SIZE_AT) (length b) else Err Cut then
+    require size_fits (size_at b) else Err BadSize then
+    require form_ok (format_at b) (u16_at b DEPTH_AT) (u16_at b FRAMES_AT) (u16_at b FLAGS_AT) else Err BadHeader then
+    Ok (head_with (size_at b) (u16_at b FRAMES_AT) (u32_at b SIZE_AT) (delay_at (format_at b) b))

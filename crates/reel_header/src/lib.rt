@@ -53,22 +53,20 @@ const FINISHED_FLI: usize = 0;
 const FLIB: usize = 0x464c4942;
 
 // Which files are taken.
+// The definitions go by the same two cases: no closure.
 #[derive(Clone, Copy)]
 pub enum Takes {
     FlcOnly,
     Both,
 }
 
-// A reel's header: its first fault, or the picture's size and the format, the number of frames, the file's size and the delay.
+// What a reel's header says: the picture's size and the format, the number of frames, the file's size and the delay.
 #[derive(Clone, Copy)]
-pub enum Head {
-    Fault(Refusal),
-    Reel {
-        picture: Size,
-        frames: usize,
-        size: usize,
-        speed: Milliseconds,
-    },
+pub struct Head {
+    pub picture: Size,
+    pub frames: usize,
+    pub size: usize,
+    pub speed: Milliseconds,
 }
 
 // Whether a magic is one that is taken.
@@ -76,12 +74,7 @@ fn magic_ok(takes: Takes, magic: usize) -> bool
     ensures { result ≡ magic_ok takes magic }
 {
     match takes {
-        Takes::Both => {
-            if magic == format::FLC_MAGIC {
-                return true;
-            }
-            magic == format::FLI_MAGIC
-        }
+        Takes::Both => magic == format::FLC_MAGIC || magic == format::FLI_MAGIC,
         Takes::FlcOnly => magic == format::FLC_MAGIC,
     }
 }
@@ -100,19 +93,11 @@ fn format_of(magic: usize) -> Format
 fn form_ok(format: Format, depth: usize, frames: usize, flags: usize) -> bool
     ensures { result ≡ form_ok format depth frames flags }
 {
-    if depth != DEPTH {
-        return false;
-    }
-    if frames < 1 {
-        return false;
-    }
-    if frames > format::MAX_FRAMES {
-        return false;
-    }
-    match format {
+    let finished = match format {
         Format::Flc => flags == FINISHED,
         Format::Fli => flags == FINISHED_FLI,
-    }
+    };
+    depth == DEPTH && 1 <= frames && frames <= format::MAX_FRAMES && finished
 }
 
 // The delay from frame to frame.
@@ -122,7 +107,7 @@ fn delay_at(format: Format, b: &[u8]) -> Milliseconds
 {
     match format {
         Format::Flc => Milliseconds(words::u32_at(b, SPEED_AT) as u32),
-        Format::Fli => delay::in_milliseconds(Jiffies(words::u16_at(b, SPEED_AT) as u16)),
+        Format::Fli => Milliseconds::from(Jiffies(words::u16_at(b, SPEED_AT) as u16)),
     }
 }
 
@@ -138,43 +123,42 @@ fn size_at(b: &[u8]) -> Size
     }
 }
 
-// The header of b.
-pub fn head_of(takes: Takes, b: &[u8]) -> Head
+// The header of b, or its first fault.
+pub fn head_of(takes: Takes, b: &[u8]) -> Result<Head, Refusal>
     ensures { result ≡ head_of takes b.now }
 {
     if b.len() < HEADER_BYTES {
-        return Head::Fault(Refusal::Cut);
+        return Err(Refusal::Cut);
     }
     if !magic_ok(takes, words::u16_at(b, MAGIC_AT)) {
-        return Head::Fault(Refusal::WrongType);
+        return Err(Refusal::WrongType);
     }
     let size = words::u32_at(b, SIZE_AT);
     if size < HEADER_BYTES {
-        return Head::Fault(Refusal::SmallSize);
+        return Err(Refusal::SmallSize);
     }
     if b.len() < size {
-        return Head::Fault(Refusal::Cut);
+        return Err(Refusal::Cut);
     }
     let picture = size_at(b);
     if !format::size_fits(picture) {
-        return Head::Fault(Refusal::BadSize);
+        return Err(Refusal::BadSize);
     }
-    let format = picture.format;
     let frames = words::u16_at(b, FRAMES_AT);
     if !form_ok(
-        format,
+        picture.format,
         words::u16_at(b, DEPTH_AT),
         frames,
         words::u16_at(b, FLAGS_AT),
     ) {
-        return Head::Fault(Refusal::BadHeader);
+        return Err(Refusal::BadHeader);
     }
-    Head::Reel {
+    Ok(Head {
         picture,
         frames,
         size,
-        speed: delay_at(format, b),
-    }
+        speed: delay_at(picture.format, b),
+    })
 }
 
 // One side of the aspect: classic at 320 by 200, else 1.
@@ -182,13 +166,10 @@ fn aspect_of(width: usize, height: usize, classic: usize) -> usize
     requires { classic < 65536 }
     ensures { (result ≡ aspect width height classic) × (result < 65536) }
 {
-    if width != 320 {
-        return 1;
+    if width == 320 && height == 200 {
+        return classic;
     }
-    if height != 200 {
-        return 1;
-    }
-    classic
+    1
 }
 
 // The fields that both formats have before the close.
@@ -216,7 +197,7 @@ pub fn write_header(out: &mut [u8], width: usize, height: usize, speed: Millisec
     words::put_u16(out, ASPECTY_AT, aspect_of(width, height, 5));
 }
 
-// The header of an FLI that is not closed yet.
+// The header of an FLI that is not closed yet: a function of its own, since its delay is of a type of its own.
 pub fn write_fli_header(out: &mut [u8], width: usize, height: usize, speed: Jiffies)
     requires { (length out.old ≡ header_bytes) × (width < 65536) × (height < 65536) }
     ensures { out.new ≡ opened_fli width height speed }

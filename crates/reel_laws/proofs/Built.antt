@@ -10,42 +10,40 @@ use native.Mathlib.Numerals.{sub-one}
 use borrow.Author.Tests.{le-leb}
 use lib.ListN.{length, take, drop, length-append}
 use lib.Seq.{take_at, take_all, drop_at}
+use Rattle.std.specs.Prelude.{Ok, Err}
 use Rattle.words.specs.Writes.{put}
 use Rattle.words.proofs.Laws.{same_refl}
 use Rattle.words.proofs.Tests.{by_test}
 use Rattle.format.specs.Limits.{size_fits, area, max_frames}
 use Rattle.format.specs.declared.Size.{Size}
-use Rattle.answer.specs.Answer.{done, told}
+use Rattle.answer.specs.Answer.{done, told, refused_at}
 use Rattle.answer.specs.declared.Refusal.{Refusal}
 use Rattle.answer.specs.declared.Refusal.TheVariants.{ShortSlice, NoRoom, BadRing}
-use Rattle.answer.specs.declared.Answer.TheVariants as said
 use Rattle.state.specs.State.{State, blank, enough, refilled}
 use Rattle.state.specs.Outcome.{Memory, lent_bytes, lent_pairs, lent_bytes_pairs, leaves, refuse}
 use Rattle.chunks.specs.declared.Layout.TheVariants.{Loose, Packed}
-use Rattle.chunks.specs.Spans.{HEADER_BYTES}
+use Rattle.chunks.specs.Spans.{HEADER_BYTES, frame_to}
 use Rattle.house_frame.specs.House.{house_frame, frame_most}
 use Rattle.house_back.specs.Plays.{ByteState}
 use Rattle.house_back.proofs.ReadsBack.{house_small}
-use Rattle.reel_header.specs.Head.{delay_at, head_of}
+use Rattle.reel_header.specs.Head.{delay_at, head_of, head_with, Headed}
 use Rattle.reel_header.specs.declared.Takes.TheVariants.{Both}
-use Rattle.reel_header.specs.declared.Head.{Head}
-use Rattle.reel_header.specs.declared.Head.TheVariants as head
 use Rattle.reel_header.specs.Written.{opened_in, second_at, closed_header, header_in}
 use Rattle.reel_header.proofs.Laws.{opened_in_length, opened_closed, header_length, header_read, header_speed}
 use Rattle.reel_play.specs.Play.{Shown, shown, play_all}
-use Rattle.reel_play.specs.declared.Ran.TheVariants.{To}
 use Rattle.reel_check.specs.Check.{checked_by, after_head, ring_answer, check_reel}
 use Rattle.reel_build.specs.declared.Reel.{Reel}
 use Rattle.reel_build.specs.Record.{reel_of, ReelOutcome, builds, keeps}
 use Rattle.reel_build.specs.Building.{most_bytes, fits}
 use Rattle.reel_build.proofs.Laws.{fits_in}
 use Rattle.reel_close.specs.Closing.{own_playing, ring_written, close_frames, with_pairs, close_ok, close_reel}
-use Rattle.reel_close.proofs.Laws.{own_played, frames_ringed, close_played, close_short, close_second_short}
+use Rattle.reel_close.proofs.Laws.{own_played, frames_ringed, close_played, close_short}
 use Rattle.reel_laws.specs.Laps.{last_of, Reads}
 use Rattle.reel_laws.specs.Building.{Making, Finished}
 use Rattle.reel_laws.proofs.Laps.{last_append}
 use Rattle.reel_laws.proofs.Frames.{Leads, Shows, size_of_first, shows_add, each_first, each_last, house_leads, exact_start, byte_start, first_size, shows_reads, Whole, all_plays, Two, two_there}
 use Rattle.reel_laws.proofs.Making.{Holds, put_after, making_holds}
+use Rattle.delay.specs.declared.Milliseconds.{Milliseconds}
 
 -- A file: a closed header, and frames that lead to the states asked for and back to the first.
 
@@ -66,7 +64,7 @@ module _ (z : Size) (speed : ℕ) (ok : size_fits z ≡ true) (first : State) (r
   pub file_length : length file ≡ size
   file_length = length-append top fs ∙ ap (λ (k : ℕ). k + length fs) top_length
 
-  pub file_read : head_of Both file ≡ head.Reel z (suc (length rest)) size (delay_at z.format file)
+  pub file_read : head_of Both file ≡ Ok (head_with z (suc (length rest)) size (delay_at z.format file))
   file_read = header_read z size (suc (length rest)) speed second fs ok (omega arith) few word (omega arith) (omega (arith, file_length))
 
   pub frames_there : drop HEADER_BYTES file ≡ fs ++ []
@@ -78,20 +76,20 @@ module _ (z : Size) (speed : ℕ) (ok : size_fits z ≡ true) (first : State) (r
   plays : Whole z ok file Loose first (rest ++ (first ∷ [])) size
   plays = all_plays z ok file Loose shows [] frames_there
 
-  played : play_all Loose (suc (length rest)) z (take size file) ≡ shown (To plays.last size) first first
+  played : play_all Loose (suc (length rest)) z (take size file) ≡ shown (Ok (frame_to plays.last size)) first first
   played =
       let count : suc (length rest) ≡ length (rest ++ (first ∷ [])) = omega (arith, length-append rest (first ∷ [])) in
       ap₂ (λ (k : ℕ) (x : List ℕ). play_all Loose k z x) count (take_all size file (omega (arith, file_length))) ∙ plays.is
-      ∙ ap (λ (s : State). shown (To plays.last size) s first) (last_append first rest first)
+      ∙ ap (λ (s : State). shown (Ok (frame_to plays.last size)) s first) (last_append first rest first)
 
   pub file_accepted : (p q : State) → enough (area z) p ≡ true → enough (area z) q ≡ true → (check_reel file p q).said ≡ done []
   unfolding check_reel
   file_accepted p q e f =
-      ap (λ (x : Head). (after_head file x p q).said) file_read
+      ap (λ (x : Headed). (after_head file x p q).said) file_read
       ∙ ap₂ (λ (s t : Bool).
       (cond (s && t) (checked_by (area z) (play_all Loose (suc (length rest)) z (take size file)) p q) (refuse ShortSlice 0 (lent_pairs p q))).said) e f
       ∙ ap (λ (x : Shown). told (ring_answer x)) played
-      ∙ ap₂ (λ (s t : Bool). told (cond (s && t) said.Done (said.Refused BadRing plays.last))) (same_refl first.picture) (same_refl first.palette)
+      ∙ ap₂ (λ (s t : Bool). told (cond (s && t) (Ok tt) (Err (refused_at BadRing plays.last)))) (same_refl first.picture) (same_refl first.palette)
 
 -- The close.
 
@@ -148,17 +146,17 @@ module _ (z : Size) (speed : ℕ) (b : List ℕ) (r : Reel) (first : State) (res
   inside = omega (arith, own_length, ap length bytes_are, length-append (header ++ fs) i.rest)
 
   -- the close's own playing ends in the last state asked for
-  own_shows : own_playing open_reel_lem b ≡ shown (To own_plays.last end) (last_of first rest) first
+  own_shows : own_playing open_reel_lem b ≡ shown (Ok (frame_to own_plays.last end)) (last_of first rest) first
   own_shows =
       let ended = ap₂ (λ (x y : Bool). x && y) (le-leb HEADER_BYTES end (omega arith)) (le-leb end (length b) inside) in
-      let plays : play_all Packed (count - 1) z (take end b) ≡ shown (To own_plays.last end) (last_of first rest) first =
+      let plays : play_all Packed (count - 1) z (take end b) ≡ shown (Ok (frame_to own_plays.last end)) (last_of first rest) first =
       ap₂ (λ (k : ℕ) (x : List ℕ). play_all Packed k z x) (sub-one (suc (length rest))) own ∙ own_plays.is in
       own_played open_reel_lem b ended end refl _ (sym plays)
 
   frames_close : close_frames open_reel_lem b (own_playing open_reel_lem b) ≡ ring_written open_reel_lem ring b
   frames_close =
       ap (close_frames open_reel_lem b) own_shows
-      ∙ sym (frames_ringed open_reel_lem b (To own_plays.last end) (last_of first rest) first own_plays.last end refl (omega arith))
+      ∙ sym (frames_ringed open_reel_lem b (Ok (frame_to own_plays.last end)) (last_of first rest) first own_plays.last end refl (omega arith))
 
   -- the bytes with the ring
 
@@ -216,7 +214,7 @@ module _ (z : Size) (speed : ℕ) (b : List ℕ) (r : Reel) (first : State) (res
         header = take_at top_is all_frames HEADER_BYTES top_is_long;
         header_read = λ quick.
             file_read z speed ok first rest i.few all_frames shows second_is word
-            ∙ ap (head.Reel z count (HEADER_BYTES + length all_frames))
+            ∙ ap (λ (d : Milliseconds). Ok (head_with z count (HEADER_BYTES + length all_frames) d))
             (header_speed z.format (HEADER_BYTES + length all_frames) count z.width z.height speed second_is all_frames quick);
         oframe1_is = two.frame_1;
         third = two.third;
@@ -271,8 +269,8 @@ module _ (z : Size) (speed : ℕ) (b : List ℕ) (r : Reel) (first : State) (res
         by_test (λ t. Fine (close_reel open_reel_lem b p q)) (enough (area z) p)
         (λ e. by_test (λ t. Fine (close_reel open_reel_lem b p q)) (enough (area z) q)
         (λ f. subst Fine (sym (close_is e f)) ring_fine)
-        (λ f. subst Fine (sym (close_second_short open_reel_lem b p q taken ok e f)) (refused_fine ShortSlice 0 open_reel_lem (lent_bytes_pairs b p q))))
-        (λ e. subst Fine (sym (close_short open_reel_lem b p q taken ok e)) (refused_fine ShortSlice 0 open_reel_lem (lent_bytes_pairs b p q)))
+        (λ f. subst Fine (sym (close_short open_reel_lem b p q taken ok (ap₂ (λ (x y : Bool). x && y) e f))) (refused_fine ShortSlice 0 open_reel_lem (lent_bytes_pairs b p q))))
+        (λ e. subst Fine (sym (close_short open_reel_lem b p q taken ok (ap (λ (x : Bool). x && enough (area z) q) e))) (refused_fine ShortSlice 0 open_reel_lem (lent_bytes_pairs b p q)))
 
     pub close_finishes : (close_reel r b p q).left.said ≡ done []
         → Finished z speed first rest (take (close_reel r b p q).reel.end (close_reel r b p q).left.memory.bytes) (close_reel r b p q).reel

@@ -9,6 +9,7 @@ use borrow.Author.Tests.{leb-true}
 use lib.Dec.{leb}
 use lib.ListN.{length, take, drop, length-append, length-drop, take-append-drop}
 use lib.Seq.{length-take-le, take-take}
+use Rattle.std.specs.Prelude.{Ok, Err}
 use Rattle.words.specs.Words.{Bytes}
 use Rattle.words.proofs.Laws.{bytes_take, bytes_drop}
 use Rattle.words.proofs.Tests.{by_test}
@@ -18,11 +19,9 @@ use Rattle.answer.specs.Answer.{done}
 use Rattle.state.specs.State.{State, blank, enough}
 use Rattle.state.proofs.Laws.{enough_is, passed}
 use Rattle.chunks.specs.declared.Layout.TheVariants.{Packed}
-use Rattle.chunks.specs.Spans.{HEADER_BYTES}
+use Rattle.chunks.specs.Spans.{HEADER_BYTES, frame_to}
 use Rattle.reel_header.specs.Written.{opened_in}
-use Rattle.reel_play.specs.Play.{ran, one_frame, frames, Shown, shown, play_all}
-use Rattle.reel_play.specs.declared.Ran.{Ran}
-use Rattle.reel_play.specs.declared.Ran.TheVariants.{Stopped, To}
+use Rattle.reel_play.specs.Play.{ran, one_frame, frames, Shown, shown, play_all, Ran}
 use Rattle.reel_play.proofs.Laws.{all_stopped, all_more}
 use Rattle.reel_build.specs.declared.Reel.{Reel}
 use Rattle.reel_build.specs.Record.{reel_of}
@@ -47,20 +46,20 @@ module _ (z : Size) (b : List ℕ) where
     pub there : drop HEADER_BYTES b ≡ bytes ++ drop next b
     pub next_is : next ≡ HEADER_BYTES + length bytes
 
-  all_through : (more from to : ℕ) (last one : State) → play_all Packed more z b ≡ shown (To from to) last one → All more to one
+  all_through : (more from to : ℕ) (last one : State) → play_all Packed more z b ≡ shown (Ok (frame_to from to)) last one → All more to one
   all_through more from to last one e = by (one_frame Packed z b HEADER_BYTES (blank (area z))).result
       (one_frame Packed z b HEADER_BYTES (blank (area z))).after refl
     where
       by : (x : Ran) (u : State) → one_frame Packed z b HEADER_BYTES (blank (area z)) ≡ ran x u → All more to one
-      by (Stopped f place) u o =
-          let k = ap (λ (x : Shown). x.result) (sym (all_stopped Packed more z b u f place o) ∙ e) in let q : ◌≡◌ {A = ℕ} 0 1 = cc in absurd (omega arith)
-      by (To here end) u o =
-          let p = frames Packed z b more here end u in
-          let l = sym (all_more Packed more z b u here end o p refl) ∙ e in
+      by (Err r) u o =
+          let k = ap (λ (x : Shown). x.result) (sym (all_stopped Packed more z b u r o) ∙ e) in let q : ◌≡◌ {A = ℕ} 0 1 = cc in absurd (omega arith)
+      by (Ok p') u o =
+          let p = frames Packed z b more p'.from p'.end u in
+          let l = sym (all_more Packed more z b u p'.from p'.end o p refl) ∙ e in
           let same : u ≡ one = ap (λ (x : Shown). x.one) l in
-          let run : p ≡ ran (To from to) last = ap (λ (x : Shown). ran x.result x.last) l in
-          let i = one_led z b HEADER_BYTES (blank (area z)) here end u o in
-          let r = played_through z b more here end u from to last run in
+          let run : p ≡ ran (Ok (frame_to from to)) last = ap (λ (x : Shown). ran x.result x.last) l in
+          let i = one_led z b HEADER_BYTES (blank (area z)) p'.from p'.end u o in
+          let r = played_through z b more p'.from p'.end u from to last run in
           subst (All more to) same
           (record {
             rest = r.states;
@@ -80,7 +79,7 @@ module _ (speed : ℕ) (r : Reel) (b : List ℕ) (bytes-in : Bytes b) (header_in
 
   -- the close's own playing came to an end at or behind the record's
   ended : close_ok r.frames r.closed ≡ true → size_fits r.size ≡ true → (x : Shown) → own_playing r b ≡ x
-      → (from to : ℕ) → x.result ≡ To from to → r.end ≤ to → Found
+      → (from to : ℕ) → x.result ≡ Ok (frame_to from to) → r.end ≤ to → Found
   ended taken sized x own from to q reach =
       by_test (λ t. Found) (end_ok r.end (length b))
       (λ e. inside (end_in r.end (length b) e) (sym (own_played r b e r.end refl (play_all Packed (r.frames - 1) r.size (take r.end b)) refl) ∙ own))
@@ -143,10 +142,10 @@ module _ (speed : ℕ) (r : Reel) (b : List ℕ) (bytes-in : Bytes b) (header_in
       where
         by_result : close_ok r.frames r.closed ≡ true → size_fits r.size ≡ true → (y : Ran) → (own_playing r b).result ≡ y
             → (ring_after r b y (own_playing r b).last (own_playing r b).one).left.said ≡ done [] → Found
-        by_result taken sized (Stopped e place) own k = let z : ◌≡◌ {A = ℕ} 0 1 = cc in absurd (omega arith)
-        by_result taken sized (To from to) own k =
-            let t = passed says (leb r.end to) {o = ring_after r b (To from to) (own_playing r b).last (own_playing r b).one} refl k refl in
-            ended taken sized (own_playing r b) refl from to own (leb-true r.end to t.0)
+        by_result taken sized (Err r) own k = let z : ◌≡◌ {A = ℕ} 0 1 = cc in absurd (omega arith)
+        by_result taken sized (Ok p) own k =
+            let t = passed says (leb r.end p.end) {o = ring_after r b (Ok (frame_to p.from p.end)) (own_playing r b).last (own_playing r b).one} refl k refl in
+            ended taken sized (own_playing r b) refl p.from p.end own (leb-true r.end p.end t.0)
 
     pub closed_leads_back : ClosedFile (take (close_reel r b p q).reel.end (close_reel r b p q).left.memory.bytes) (close_reel r b p q).reel
     closed_leads_back =

@@ -6,20 +6,18 @@ use Prim.Native.Nat.{ℕ, suc, ◌+◌, ◌-◌}
 use native.Mathlib.Omega.{arith}
 use native.Mathlib.Nat.{add-sub_cancel_left}
 use lib.ListN.{length, take, drop, length-append}
+use Rattle.std.specs.Prelude.{Ok}
 use Rattle.words.specs.Words.{part, u32_at}
 use Rattle.words.proofs.There.{there_drop, there_take, drop_word32}
 use Rattle.words.proofs.Bytewise.{bytes_replicate}
 use Rattle.format.specs.Limits.{area, size_fits}
 use Rattle.format.specs.declared.Size.{Size}
 use Rattle.format.proofs.Laws.{size_in_lem}
-use Rattle.answer.specs.declared.Answer.TheVariants.{Done}
 use Rattle.state.specs.State.{State, blank, state, Exact}
-use Rattle.chunks.specs.Headers.{frame_header}
-use Rattle.chunks.specs.declared.FrameHeader.TheVariants as whole
+use Rattle.chunks.specs.Headers.{frame_header, whole_of}
 use Rattle.chunks.specs.declared.Layout.{Layout}
 use Rattle.chunks.specs.declared.Layout.TheVariants.{Loose}
-use Rattle.chunks.specs.Spans.{HEADER_BYTES, next_at}
-use Rattle.chunks.specs.declared.Next.TheVariants.{Frame}
+use Rattle.chunks.specs.Spans.{HEADER_BYTES, next_at, frame_to}
 use Rattle.chunks.proofs.Headers.{frame_in}
 use Rattle.chunks.proofs.Spans.{next_there}
 use Rattle.read_frame.specs.Frame.{frame}
@@ -29,7 +27,6 @@ use Rattle.house_back.proofs.Frames.{header_before}
 use Rattle.house_back.specs.Plays.{ByteState}
 use Rattle.house_back.proofs.ReadsBack.{subs_small, house_reads_back}
 use Rattle.reel_play.specs.Play.{Progress, ran, one_frame, frames, shown, play_all}
-use Rattle.reel_play.specs.declared.Ran.TheVariants.{To}
 use Rattle.reel_play.proofs.Laws.{one_played, frames_none, frames_more, all_more}
 use Rattle.reel_laws.specs.Laps.{last_of, Reads}
 use Rattle.reel_laws.specs.Laps as laps
@@ -39,8 +36,8 @@ module _ (z : Size) where
   -- the bytes f are a frame, whatever follows it, which is accepted and leads from s to t
   pub record Leads (f : List ℕ) (s t : State) : Type 0 where
     pub count : ℕ
-    pub header : (more : List ℕ) → frame_header (f ++ more) ≡ whole.Frame count (length f)
-    pub done : (frame z f).answer ≡ Done
+    pub header : (more : List ℕ) → frame_header (f ++ more) ≡ Ok (whole_of count (length f))
+    pub done : (frame z f).answer ≡ Ok tt
     pub after : played (frame z f) s ≡ t
 
   -- the bytes are frames back to back that lead from s to each of the states in turn
@@ -98,26 +95,26 @@ module _ (z : Size) (ok : size_fits z ≡ true) where
   -- a run of frames up to an offset, in a state
   pub record Ends (p : Progress) (end : ℕ) (s : State) : Type 0 where
     pub last : ℕ
-    pub is : p ≡ ran (To last end) s
+    pub is : p ≡ ran (Ok (frame_to last end)) s
 
   module _ (b : List ℕ) where
     -- one frame, which b has at offset at
     module _ {f : List ℕ} {s t : State} (l : Leads z f s t) (more : List ℕ) (at : ℕ) (e : drop at b ≡ f ++ more) where
-      pub leads_next : (layout : Layout) → next_at layout b at ≡ Frame at (at + length f)
+      pub leads_next : (layout : Layout) → next_at layout b at ≡ Ok (frame_to at (at + length f))
       leads_next layout = next_there layout b at l.count (length f) (ap frame_header e ∙ l.header more)
 
       part_there : part b at (at + length f) ≡ f
       part_there = ap (λ (n : ℕ). take n (drop at b)) (add-sub_cancel_left at (length f)) ∙ there_take b f more at (length f) e refl
 
-      pub leads_plays : (layout : Layout) → one_frame layout z b at s ≡ ran (To at (at + length f)) t
+      pub leads_plays : (layout : Layout) → one_frame layout z b at s ≡ ran (Ok (frame_to at (at + length f))) t
       leads_plays layout =
           one_played layout z b at s at (at + length f) (leads_next layout) (ap (λ (x : List ℕ). (frame z x).answer) part_there ∙ l.done)
-          ∙ ap (ran (To at (at + length f))) (ap (λ (x : List ℕ). played (frame z x) s) part_there ∙ l.after)
+          ∙ ap (ran (Ok (frame_to at (at + length f)))) (ap (λ (x : List ℕ). played (frame z x) s) part_there ∙ l.after)
 
       -- its size field
       pub leads_size : u32_at b at ≡ length f
       leads_size =
-          let i = frame_in (f ++ more) (whole.Frame l.count (length f)) (l.header more) in
+          let i = frame_in (f ++ more) (Ok (whole_of l.count (length f))) (l.header more) in
           ap (u32_at b) (omega arith) ∙ sym (drop_word32 b at 0) ∙ ap (λ (x : List ℕ). u32_at x 0) e ∙ sym i.4
 
     -- the first of some frames, and the others
@@ -134,7 +131,7 @@ module _ (z : Size) (ok : size_fits z ≡ true) where
     pub shows_plays : (layout : Layout) {s : State} {ts : List State} {fs : List ℕ} → Shows z s ts fs → (more : List ℕ) (last at : ℕ) → drop at b ≡ fs ++ more
         → Ends (frames layout z b (length ts) last at s) (at + length fs) (last_of s ts)
     shows_plays layout {s} none more last at e =
-        record { last = last; is = frames_none layout z b 0 last at s (omega arith) ∙ ap (λ (k : ℕ). ran (To last k) s) (omega arith) }
+        record { last = last; is = frames_none layout z b 0 last at s (omega arith) ∙ ap (λ (k : ℕ). ran (Ok (frame_to last k)) s) (omega arith) }
     shows_plays layout {s} (next {t} {ts} {f} {fs} l rest) more last at e =
         let x = first_there f fs more at e in
         let r = shows_plays layout rest more at (at + length f) x.others in
@@ -144,7 +141,7 @@ module _ (z : Size) (ok : size_fits z ≡ true) where
           is =
               frames_more layout z b (suc (length ts)) last at s (omega arith) t at (at + length f) (leads_plays l (fs ++ more) at x.here layout)
               ∙ ap (λ (k : ℕ). frames layout z b k at (at + length f) t) n
-              ∙ r.is ∙ ap (λ (k : ℕ). ran (To r.last k) (last_of t ts)) x.whole_end;
+              ∙ r.is ∙ ap (λ (k : ℕ). ran (Ok (frame_to r.last k)) (last_of t ts)) x.whole_end;
         }
 
     pub shows_reads : {s : State} {ts : List State} {fs : List ℕ} → Shows z s ts fs → Exact z s → (more : List ℕ) (at : ℕ) → drop at b ≡ fs ++ more
@@ -158,7 +155,7 @@ module _ (z : Size) (ok : size_fits z ≡ true) where
     -- frame 1 from blank, at offset 128, and the rest
     pub record Whole (layout : Layout) (first : State) (rest : List State) (end : ℕ) : Type 0 where
       pub last : ℕ
-      pub is : play_all layout (length rest) z b ≡ shown (To last end) (last_of first rest) first
+      pub is : play_all layout (length rest) z b ≡ shown (Ok (frame_to last end)) (last_of first rest) first
 
     pub all_plays : (layout : Layout) {first : State} {rest : List State} {fs : List ℕ} → Shows z (blank (area z)) (first ∷ rest) fs → (more : List ℕ)
         → drop HEADER_BYTES b ≡ fs ++ more → Whole layout first rest (HEADER_BYTES + length fs)
@@ -170,7 +167,7 @@ module _ (z : Size) (ok : size_fits z ≡ true) where
           is =
               all_more layout (length ts) z b t HEADER_BYTES (HEADER_BYTES + length f) (leads_plays l (fs ++ more) HEADER_BYTES x.here layout) _ refl
               ∙ ap (λ (p : Progress). shown p.result p.after t) r.is
-              ∙ ap (λ (k : ℕ). shown (To r.last k) (last_of t ts) t) x.whole_end;
+              ∙ ap (λ (k : ℕ). shown (Ok (frame_to r.last k)) (last_of t ts) t) x.whole_end;
         }
 
     pub first_size : {s t : State} {ts : List State} {fs : List ℕ} (x : Shows z s (t ∷ ts) fs) (more : List ℕ) (at : ℕ) → drop at b ≡ fs ++ more
@@ -180,8 +177,8 @@ module _ (z : Size) (ok : size_fits z ≡ true) where
     -- where the first two frames lie, the ring being behind the others
     pub record Two (second : ℕ) : Type 0 where
       pub third : ℕ
-      pub frame_1 : next_at Loose b HEADER_BYTES ≡ Frame HEADER_BYTES second
-      pub frame_2 : next_at Loose b second ≡ Frame second third
+      pub frame_1 : next_at Loose b HEADER_BYTES ≡ Ok (frame_to HEADER_BYTES second)
+      pub frame_2 : next_at Loose b second ≡ Ok (frame_to second third)
 
     pub two_there : {first : State} {rest : List State} {fs : List ℕ} (x : Shows z (blank (area z)) (first ∷ rest) fs) {ring : List ℕ}
         → Leads z ring (last_of first rest) first

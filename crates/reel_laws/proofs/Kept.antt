@@ -7,6 +7,7 @@ use Prim.Native.Nat.{ℕ, ◌+◌, ◌≤◌}
 use native.Mathlib.Omega.{arith}
 use lib.Dec.{leb}
 use lib.ListN.{length, get_or}
+use Rattle.std.specs.Prelude.{Ok, Err}
 use Rattle.words.specs.Writes.{put}
 use Rattle.words.proofs.Laws.{length_put}
 use Rattle.words.proofs.Tests.{by_test, cond_holds}
@@ -20,9 +21,7 @@ use Rattle.chunks.specs.Spans.{HEADER_BYTES}
 use Rattle.house_frame.specs.House.{house_frame}
 use Rattle.reel_header.specs.Written.{second_at, closed_header, Other}
 use Rattle.reel_header.proofs.Kept.{put_other, closed_keeps}
-use Rattle.reel_play.specs.Play.{Shown}
-use Rattle.reel_play.specs.declared.Ran.{Ran}
-use Rattle.reel_play.specs.declared.Ran.TheVariants.{Stopped, To}
+use Rattle.reel_play.specs.Play.{Shown, Ran}
 use Rattle.reel_build.specs.declared.Reel.{Reel}
 use Rattle.reel_build.specs.Record.{reel_of, ReelOutcome, builds, keeps}
 use Rattle.reel_build.specs.Building.{end_ok, fits, add_ok, add_frame}
@@ -64,9 +63,9 @@ module _ (r : Reel) (b : List ℕ) (s t : State) (number place : ℕ) where
 
   -- with any pairs beside the bytes
   ring_kept : (x : Ran) (u v first second : State) → Kept (with_pairs (ring_after r b x u v) first second)
-  ring_kept (Stopped e at) u v first second = kept_refused e at (lent_bytes_pairs b first second) refl
-  ring_kept (To last next) u v first second =
-      cond_holds (λ (o : ReelOutcome). Kept (with_pairs o first second)) (leb r.end next) _ _
+  ring_kept (Err r) u v first second = kept_refused r.0 r.1 (lent_bytes_pairs b first second) refl
+  ring_kept (Ok p) u v first second =
+      cond_holds (λ (o : ReelOutcome). Kept (with_pairs o first second)) (leb r.end p.end) _ _
       (cond_holds (λ (o : ReelOutcome). Kept (with_pairs o first second)) (fits r.end (house_frame r.size u v) b) _ _
       (kept_done _ _) (kept_refused NoRoom 0 (lent_bytes_pairs b first second) refl)) (kept_refused Cut 0 (lent_bytes_pairs b first second) refl)
 
@@ -104,8 +103,8 @@ module _ (r : Reel) (b : List ℕ) (i : ℕ) (o : Other r.size.format i) where
       (λ e. refl)
 
   play_keeps : HEADER_BYTES ≤ r.end → (x : Ran) (s t : State) → Same (ring_after r b x s t)
-  play_keeps h (Stopped e at) s t = refl
-  play_keeps h (To last next) s t = cond_holds Same (leb r.end next) _ _ (ring_keeps (house_frame r.size s t) h) refl
+  play_keeps h (Err r) s t = refl
+  play_keeps h (Ok p) s t = cond_holds Same (leb r.end p.end) _ _ (ring_keeps (house_frame r.size s t) h) refl
 
   frames_keep : Same (close_frames r b (own_playing r b))
   frames_keep =

@@ -9,31 +9,26 @@ use native.Mathlib.Omega.{arith}
 use native.Mathlib.Nat.{not-suc-le-zero}
 use lib.ListN.{length, take, drop, drop_of_length-le, length-replicate}
 use lib.Seq.{take_all}
+use Rattle.std.specs.Prelude.{Ok, Err}
 use Rattle.words.specs.Words.{part}
 use Rattle.words.specs.Writes.{Write, applied}
-use Rattle.answer.specs.declared.Answer.{Answer}
-use Rattle.answer.specs.declared.Answer.TheVariants.{Done, Refused}
 use Rattle.read_frame.specs.Frame.{frame}
 use Rattle.state.proofs.Laws.{enough_is}
-use Rattle.reel_header.specs.Head.{head_of}
+use Rattle.reel_header.specs.Head.{head_of, head_with}
 use Rattle.chunks.specs.declared.Layout.TheVariants.{Loose}
-use Rattle.chunks.specs.Spans.{HEADER_BYTES, Spans, frame_spans, next_at}
+use Rattle.chunks.specs.declared.Frame.{Frame}
+use Rattle.chunks.specs.Spans.{HEADER_BYTES, Spans, frame_spans, next_at, frame_to, Next}
 use Rattle.chunks.proofs.Spans.{after_next, frame_spans_next, frame_spans_none}
 use Rattle.reel_header.specs.declared.Takes.TheVariants.{Both}
-use Rattle.reel_header.specs.declared.Head.TheVariants as head
-use Rattle.chunks.specs.declared.Next.{Next}
-use Rattle.chunks.specs.declared.Next.TheVariants.{Fault, Frame}
 use Rattle.reel_header.proofs.Laws.{head_in}
-use Rattle.reel_play.specs.Play.{Progress, ran, ran_by, met, one_frame, frames, shown_after, play_all}
+use Rattle.reel_play.specs.Play.{Progress, ran, ran_by, met, one_frame, frames, shown_after, play_all, Ran}
 use Rattle.reel_play.proofs.Laws.{not_to, frames_played}
-use Rattle.reel_play.specs.declared.Ran.{Ran}
-use Rattle.reel_play.specs.declared.Ran.TheVariants.{Stopped, To}
 use Rattle.reel_laws.specs.Laps.{last_of, times, states_by, states_of, states, laps, Reads, none, next, LeadsBack}
 use Rattle.format.specs.Limits.{area, size_fits, Sized}
 use Rattle.format.specs.declared.Size.{Size}
 use Rattle.delay.specs.declared.Milliseconds.{Milliseconds}
 use Rattle.format.proofs.Laws.{size_in_lem}
-use Rattle.answer.specs.Answer.{done, told}
+use Rattle.answer.specs.Answer.{done, told, Answer}
 use Rattle.state.specs.State.{State, state, blank, refilled, Exact}
 use Rattle.state.specs.Outcome.{Outcome, lent_pair, lent_pairs, leaves}
 use Rattle.read_frame.specs.Reading.{played, read_frame}
@@ -41,6 +36,12 @@ use Rattle.read_frame.proofs.Laws.{read_by_lem}
 use Rattle.read_frame.proofs.Sound.{played_exact}
 use Rattle.reel_check.specs.Check.{check_reel}
 use Rattle.reel_check.proofs.Passed.{Came, check_passed}
+
+-- two frames that lie alike
+pub frame_same : (a b c d : ℕ) → ◌≡◌ {A = Ran} (Ok (frame_to a b)) (Ok (frame_to c d)) → (a ≡ c) × (b ≡ d)
+frame_same a b c d k =
+    let f : frame_to a b ≡ frame_to c d = cc in
+    (ap (λ (x : Frame). x.from) f, ap (λ (x : Frame). x.end) f)
 
 -- lists of states
 
@@ -70,11 +71,11 @@ blank_exact z s =
 
 module _ (z : Size) (ok : size_fits z ≡ true) where
   -- an accepted frame, read against s
-  module _ (f : List ℕ) (s : State) (i : Exact z s) (d : (frame z f).answer ≡ Done) where
-    pub reads_played : read_frame f z s ≡ leaves (told Done) (lent_pair (played (frame z f) s))
+  module _ (f : List ℕ) (s : State) (i : Exact z s) (d : (frame z f).answer ≡ Ok tt) where
+    pub reads_played : read_frame f z s ≡ leaves (told (Ok tt)) (lent_pair (played (frame z f) s))
     reads_played =
-        read_by_lem f z s ok (enough_is (area z) s (omega (arith, i.picture.pixels)) (omega (arith, i.colours))) Done d
-        ∙ ap₂ (λ (x y : List ℕ). leaves (told Done) (lent_pair (state x y)))
+        read_by_lem f z s ok (enough_is (area z) s (omega (arith, i.picture.pixels)) (omega (arith, i.colours))) (Ok tt) d
+        ∙ ap₂ (λ (x y : List ℕ). leaves (told (Ok tt)) (lent_pair (state x y)))
         (whole_front (frame z f).pixels s.picture (area z) i.picture.pixels) (whole_front (frame z f).colours s.palette 768 i.colours)
       where
         whole_front : (ws : List Write) (x : List ℕ) (n : ℕ) → length x ≡ n → applied ws (take n x) ++ drop n x ≡ applied ws x
@@ -84,34 +85,34 @@ module _ (z : Size) (ok : size_fits z ≡ true) where
   module _ (b : List ℕ) where
     -- what an accepted frame of a reel is
     pub record One (at : ℕ) (s : State) (from end : ℕ) (t : State) : Type 0 where
-      pub step : next_at Loose b at ≡ Frame from end
-      pub read : read_frame (part b from end) z s ≡ leaves (told Done) (lent_pair t)
+      pub step : next_at Loose b at ≡ Ok (frame_to from end)
+      pub read : read_frame (part b from end) z s ≡ leaves (told (Ok tt)) (lent_pair t)
       pub exact : Exact z t
 
-    pub one_read : (at : ℕ) (s : State) → Exact z s → (from end : ℕ) (t : State) → one_frame Loose z b at s ≡ ran (To from end) t → One at s from end t
+    pub one_read : (at : ℕ) (s : State) → Exact z s → (from end : ℕ) (t : State) → one_frame Loose z b at s ≡ ran (Ok (frame_to from end)) t → One at s from end t
     unfolding one_frame
     one_read at s i from end t e = by (next_at Loose b at) refl e
       where
-        by_answer : (x y : ℕ) → next_at Loose b at ≡ Frame x y → (a : Answer) → (frame z (part b x y)).answer ≡ a
-            → ran_by x y (frame z (part b x y)) a s ≡ ran (To from end) t
+        by_answer : (x y : ℕ) → next_at Loose b at ≡ Ok (frame_to x y) → (a : Answer) → (frame z (part b x y)).answer ≡ a
+            → ran_by x y (frame z (part b x y)) a s ≡ ran (Ok (frame_to from end)) t
             → One at s from end t
-        by_answer x y n (Refused r p) d l = not_to l
-        by_answer x y n Done d l =
-            let k : To x y ≡ To from end = ap (λ (p : Progress). p.result) l in
-            let kx : x ≡ from = cc in
-            let ky : y ≡ end = cc in
+        by_answer x y n (Err r') d l = not_to l
+        by_answer x y n (Ok u) d l =
+            let k = frame_same x y from end (ap (λ (p : Progress). p.result) l) in
+            let kx = k.0 in
+            let ky = k.1 in
             let kt : played (frame z (part b x y)) s ≡ t = ap (λ (p : Progress). p.after) l in
             record {
-              step = n ∙ ap₂ (λ (u v : ℕ). Frame u v) kx ky;
+              step = n ∙ ap₂ (λ (u v : ℕ). Ok (frame_to u v)) kx ky;
               read =
                   ap₂ (λ (u v : ℕ). read_frame (part b u v) z s) (sym kx) (sym ky)
-                  ∙ reads_played (part b x y) s i d ∙ ap (λ (u : State). leaves (told Done) (lent_pair u)) kt;
+                  ∙ reads_played (part b x y) s i d ∙ ap (λ (u : State). leaves (told (Ok tt)) (lent_pair u)) kt;
               exact = subst (Exact z) kt (played_exact z (part b x y) s i);
             }
 
-        by : (x : Next) → next_at Loose b at ≡ x → met z b x s ≡ ran (To from end) t → One at s from end t
-        by (Fault r p) n l = not_to l
-        by (Frame x y) n l = by_answer x y n (frame z (part b x y)).answer refl l
+        by : (x : Next) → next_at Loose b at ≡ x → met z b x s ≡ ran (Ok (frame_to from end)) t → One at s from end t
+        by (Err r') n l = not_to l
+        by (Ok f) n l = by_answer f.from f.end n (frame z (part b f.from f.end)).answer refl l
 
     -- frames that were all accepted: their states, read one after the other, end in the state that they came to
     record RanThrough (count at : ℕ) (s t : State) : Type 0 where
@@ -120,32 +121,31 @@ module _ (z : Size) (ok : size_fits z ≡ true) where
       pub last : last_of s (states Loose z b count at s) ≡ t
 
     -- one frame more
-    states_more : (count at : ℕ) (s : State) (from end : ℕ) (t : State) → one_frame Loose z b at s ≡ ran (To from end) t
+    states_more : (count at : ℕ) (s : State) (from end : ℕ) (t : State) → one_frame Loose z b at s ≡ ran (Ok (frame_to from end)) t
         → states Loose z b (suc count) at s ≡ t ∷ states Loose z b count end t
     unfolding states one_frame
     states_more count at s from end t o =
         ap (λ (x : Spans). states_of z b x.met s) (frame_spans_next Loose b count at) ∙ by (next_at Loose b at) o
       where
-        ran_by_as : (x y : ℕ) (a : Answer) → ran_by x y (frame z (part b x y)) a s ≡ ran (To from end) t
+        ran_by_as : (x y : ℕ) (a : Answer) → ran_by x y (frame z (part b x y)) a s ≡ ran (Ok (frame_to from end)) t
             → states_by (ran_by x y (frame z (part b x y)) a s).result (ran_by x y (frame z (part b x y)) a s).after
             (λ at' s'. states_of z b (frame_spans Loose b count y).met s')
             ≡ t ∷ states_of z b (frame_spans Loose b count end).met t
-        ran_by_as x y (Refused r p) l = not_to l
-        ran_by_as x y Done l =
-            let k : To x y ≡ To from end = ap (λ (p : Progress). p.result) l in
-            let ky : y ≡ end = cc in
+        ran_by_as x y (Err r') l = not_to l
+        ran_by_as x y (Ok u) l =
+            let ky = (frame_same x y from end (ap (λ (p : Progress). p.result) l)).1 in
             ap₂ (λ (n : ℕ) (u : State). u ∷ states_of z b (frame_spans Loose b count n).met u) ky (ap (λ (p : Progress). p.after) l)
 
-        by : (x : Next) → met z b x s ≡ ran (To from end) t
+        by : (x : Next) → met z b x s ≡ ran (Ok (frame_to from end)) t
             → states_of z b (after_next x (λ y. frame_spans Loose b count y)).met s ≡ t ∷ states_of z b (frame_spans Loose b count end).met t
-        by (Fault r p) l = not_to l
-        by (Frame x y) l = ran_by_as x y (frame z (part b x y)).answer l
+        by (Err r') l = not_to l
+        by (Ok f) l = ran_by_as f.from f.end (frame z (part b f.from f.end)).answer l
 
     states_none : (at : ℕ) (s : State) → states Loose z b 0 at s ≡ []
     unfolding states
     states_none at s = ap (λ (x : Spans). states_of z b x.met s) (frame_spans_none Loose b 0 at (omega arith))
 
-    frames_through : (count last at : ℕ) (s : State) → Exact z s → (ring end : ℕ) (t : State) → frames Loose z b count last at s ≡ ran (To ring end) t
+    frames_through : (count last at : ℕ) (s : State) → Exact z s → (ring end : ℕ) (t : State) → frames Loose z b count last at s ≡ ran (Ok (frame_to ring end)) t
         → RanThrough count at s t
     frames_through count last at s i ring end t e =
         frames_played Loose z b ring end t (λ n k u. Exact z u → RanThrough n k u t)
@@ -173,7 +173,7 @@ laps_same z b count at s ts e l (suc k) =
 
 -- the check
 
-module _ (b : List ℕ) (z : Size) (count size : ℕ) (speed : Milliseconds) (is : head_of Both b ≡ head.Reel z count size speed) where
+module _ (b : List ℕ) (z : Size) (count size : ℕ) (speed : Milliseconds) (is : head_of Both b ≡ Ok (head_with z count size speed)) where
   abbrev reel : List ℕ
   reel = take size b
 
@@ -186,14 +186,14 @@ module _ (b : List ℕ) (z : Size) (count size : ℕ) (speed : Milliseconds) (is
   -- frame 1, and then the other frames and the ring
   played_leads : (r : Ran) (one : State) → one_frame Loose z reel HEADER_BYTES (blank (area z)) ≡ ran r one
       → Came (shown_after (ran r one) (λ last at s. frames Loose z reel count last at s)) → Leads one
-  played_leads (Stopped r p) one o c = let e = c.to in let f : ◌≡◌ {A = ℕ} 0 1 = cc in absurd (omega arith)
-  played_leads (To first second) one o c =
-      let hd = head_in Both b (head.Reel z count size speed) is in
+  played_leads (Err r') one o c = let e = c.to in let f : ◌≡◌ {A = ℕ} 0 1 = cc in absurd (omega arith)
+  played_leads (Ok p) one o c =
+      let hd = head_in Both b (Ok (head_with z count size speed)) is in
       let ok = hd.sized in
-      let x = one_read z ok reel HEADER_BYTES (blank (area z)) (blank_exact z (size_in_lem z ok)) first second one o in
-      let e : frames Loose z reel count first second one ≡ ran (To c.ring c.end) one = ap₂ (λ (u : Ran) (t : State). ran u t) c.to c.same in
-      let t = frames_through z ok reel count first second one x.exact c.ring c.end one e in
-      let ts = states Loose z reel count second one in
+      let x = one_read z ok reel HEADER_BYTES (blank (area z)) (blank_exact z (size_in_lem z ok)) p.from p.end one o in
+      let e : frames Loose z reel count p.from p.end one ≡ ran (Ok (frame_to c.ring c.end)) one = ap₂ (λ (u : Ran) (t : State). ran u t) c.to c.same in
+      let t = frames_through z ok reel count p.from p.end one x.exact c.ring c.end one e in
+      let ts = states Loose z reel count p.end one in
       let l = last_split one ts one t.last (omega (arith, t.many, hd.some_frames)) in
       record {
         leads =
@@ -206,11 +206,11 @@ module _ (b : List ℕ) (z : Size) (count size : ℕ) (speed : Milliseconds) (is
               one = one;
               middle = l.front;
               many = l.long ∙ t.many;
-              reads = next first second one x.step x.read (subst (Reads z reel second one) l.is t.reads);
-              first = first;
-              second = second;
+              reads = next p.from p.end one x.step x.read (subst (Reads z reel p.end one) l.is t.reads);
+              first = p.from;
+              second = p.end;
               frame_1 = x.step;
-              every_lap = laps_same z reel count second one (l.front ++ (one ∷ [])) l.is (last_append one l.front one);
+              every_lap = laps_same z reel count p.end one (l.front ++ (one ∷ [])) l.is (last_append one l.front one);
             };
         pixels = refl;
         shows = refl;
@@ -225,7 +225,7 @@ module _ (b : List ℕ) (first second : State) where
   pub record Accepted (o : Outcome) : Type 0 where
     pub leads : LeadsBack b
     pub pairs : o
-        ≡ leaves (told Done) (lent_pairs (refilled (area leads.picture) leads.one first) (refilled (area leads.picture) leads.one second))
+        ≡ leaves (told (Ok tt)) (lent_pairs (refilled (area leads.picture) leads.one first) (refilled (area leads.picture) leads.one second))
 
   pub accepted_leads_back : (check_reel b first second).said ≡ done [] → Accepted (check_reel b first second)
   accepted_leads_back e =
@@ -233,5 +233,5 @@ module _ (b : List ℕ) (first second : State) where
       let l = came_leads b c.picture c.count c.size c.speed c.header c.played in
       record {
         leads = l.leads;
-        pairs = c.pairs ∙ ap₂ (λ (n : ℕ) (s : State). leaves (told Done) (lent_pairs (refilled n s first) (refilled n s second))) (sym l.pixels) (sym l.shows);
+        pairs = c.pairs ∙ ap₂ (λ (n : ℕ) (s : State). leaves (told (Ok tt)) (lent_pairs (refilled n s first) (refilled n s second))) (sym l.pixels) (sym l.shows);
       }

@@ -20,9 +20,9 @@ use Rattle.house_frame.proofs.Laws.{house_short}
 use Rattle.reel_build.specs.declared.Reel.{Reel}
 use Rattle.reel_build.specs.Record.{ReelOutcome, builds, keeps}
 use Rattle.reel_build.specs.Building.{most_bytes, end_ok, fits, added, add_ok, add_frame}
-use Rattle.reel_build.proofs.Laws.{add_closed, add_short, add_next_short, add_record, add_passed}
+use Rattle.reel_build.proofs.Laws.{add_closed, add_short, add_record, add_passed}
 use Rattle.reel_close.specs.Closing.{close_ok, close_reel}
-use Rattle.reel_close.proofs.Laws.{close_time, close_short, close_second_short}
+use Rattle.reel_close.proofs.Laws.{close_time, close_short}
 use Rattle.reel_laws.specs.Building.{Making, reel_most, RoomEnough}
 use Rattle.reel_laws.proofs.Making.{Holds, making_holds, making_short}
 use Rattle.reel_laws.proofs.Built.{close_can_be_done}
@@ -70,8 +70,8 @@ module _ (z : Size) (speed : ℕ) {b : List ℕ} {r : Reel} {asked : List State}
       (fitting (house_frame r.size (front (area r.size) s) (front (area r.size) t))
       (house_short (front_exact r.size s size_ok (area r.size) refl k) (front_exact r.size t size_ok (area r.size) refl l))))
       (λ n. subst NotThree (sym (add_record r b s t e size_ok k l n)) (other_not_three r Cut (lent_bytes b) (λ q. omega (arith, q)))))
-      (λ l. subst NotThree (sym (add_next_short r b s t e size_ok k l)) (other_not_three r ShortSlice (lent_bytes b) (λ q. omega (arith, q)))))
-      (λ k. subst NotThree (sym (add_short r b s t e size_ok k)) (other_not_three r ShortSlice (lent_bytes b) (λ q. omega (arith, q)))))
+      (λ l. subst NotThree (sym (add_short r b s t e size_ok (ap₂ (λ (x y : Bool). x && y) k l))) (other_not_three r ShortSlice (lent_bytes b) (λ q. omega (arith, q)))))
+      (λ k. subst NotThree (sym (add_short r b s t e size_ok (ap (λ (x : Bool). x && enough (area r.size) t) k))) (other_not_three r ShortSlice (lent_bytes b) (λ q. omega (arith, q)))))
       (λ e. subst NotThree (sym (add_closed r b s t e)) (other_not_three r WrongTime (lent_bytes b) (λ q. omega (arith, q))))
     where
       fitting : (f : List ℕ) → length f ≤ frame_most → NotThree (added r f b)
@@ -109,9 +109,9 @@ module _ (z : Size) (speed : ℕ) {b : List ℕ} {r : Reel} where
           (λ f. said_done (close_reel r b p q)
           (close_can_be_done z speed m p q (ap (λ (x : Size). enough (area x) p) (sym same) ∙ e)
           (ap (λ (x : Size). enough (area x) q) (sym same) ∙ f) n.0 n.1))
-          (λ f. subst NotThree (sym (close_second_short r b p q taken sized e f))
+          (λ f. subst NotThree (sym (close_short r b p q taken sized (ap₂ (λ (x y : Bool). x && y) e f)))
           (other_not_three r ShortSlice (lent_bytes_pairs b p q) (λ k. omega (arith, k)))))
-          (λ e. subst NotThree (sym (close_short r b p q taken sized e)) (other_not_three r ShortSlice (lent_bytes_pairs b p q) (λ k. omega (arith, k))))
+          (λ e. subst NotThree (sym (close_short r b p q taken sized (ap (λ (x : Bool). x && enough (area r.size) q) e))) (other_not_three r ShortSlice (lent_bytes_pairs b p q) (λ k. omega (arith, k))))
 
 pub room_enough : (z : Size) (speed : ℕ) {b : List ℕ} {r : Reel} {asked : List State} → Making z speed b r asked → RoomEnough z b r asked
 unfolding NotThree

@@ -1,5 +1,5 @@
 -- A reel's making as a whole, an open, adds and a close, and what the closed reel shows.
-use Rattle.std.specs.Prelude.{ℕ, suc, ◌+◌, ◌*◌, ◌≤◌, ◌<◌, List, [], ◌∷◌, ◌++◌, true, ◌≡◌, length, take}
+use Rattle.std.specs.Prelude.{ℕ, suc, ◌+◌, ◌*◌, ◌≤◌, ◌<◌, List, [], ◌∷◌, ◌++◌, true, ◌≡◌, length, take, Ok}
 use Rattle.words.specs.Words.{Bytes}
 use Rattle.format.specs.Limits.{area}
 use Rattle.format.specs.declared.Format.{Format}
@@ -11,12 +11,10 @@ use Rattle.answer.specs.declared.Refusal.TheVariants.{NoRoom}
 use Rattle.state.specs.State.{State, blank, front, enough}
 use Rattle.state.specs.Outcome.{lent_bytes, leaves}
 use Rattle.chunks.specs.declared.Layout.TheVariants.{Loose}
-use Rattle.chunks.specs.Spans.{HEADER_BYTES, next_at}
-use Rattle.chunks.specs.declared.Next.TheVariants.{Frame}
+use Rattle.chunks.specs.Spans.{HEADER_BYTES, next_at, frame_to}
 use Rattle.house_frame.specs.House.{frame_most}
-use Rattle.reel_header.specs.Head.{delay_in, head_of}
+use Rattle.reel_header.specs.Head.{delay_in, head_of, head_with}
 use Rattle.reel_header.specs.declared.Takes.TheVariants.{Both}
-use Rattle.reel_header.specs.declared.Head.TheVariants as head
 use Rattle.reel_header.specs.Written.{header_in}
 use Rattle.reel_check.specs.Check.{check_reel}
 use Rattle.reel_build.specs.declared.Reel.{Reel}
@@ -54,11 +52,11 @@ module _ (z : Size) (delay : ℕ) where
     pub second : ℕ
     pub header : take HEADER_BYTES b ≡ header_in z.format r.end (suc (length rest)) z.width z.height delay second
     -- "Speed is the caller's", a number of 32 bits
-    pub header_read : delay < 4294967296 → head_of Both b ≡ head.Reel z (suc (length rest)) r.end (delay_in z.format delay)
+    pub header_read : delay < 4294967296 → head_of Both b ≡ Ok (head_with z (suc (length rest)) r.end (delay_in z.format delay))
     -- "oframe1 128, oframe2 the second frame chunk (the ring, if there is one frame)"
-    pub oframe1_is : next_at Loose b HEADER_BYTES ≡ Frame HEADER_BYTES second
+    pub oframe1_is : next_at Loose b HEADER_BYTES ≡ Ok (frame_to HEADER_BYTES second)
     pub third : ℕ
-    pub oframe2_is : next_at Loose b second ≡ Frame second third
+    pub oframe2_is : next_at Loose b second ≡ Ok (frame_to second third)
     -- "The closed reel shows every state asked for", and its ring the first of them
     pub shows : Reads z b HEADER_BYTES (blank (area z)) (first ∷ (rest ++ (first ∷ [])))
     -- the check of the whole reel accepts it

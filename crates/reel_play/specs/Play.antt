@@ -1,21 +1,22 @@
 -- Playing frames: each is read against the state that the one before it left, frame 1 against blank.
-use Rattle.std.specs.Prelude.{ℕ, ◌+◌, List, [], ◌∷◌}
+use Rattle.std.specs.Prelude.{ℕ, ◌+◌, List, [], ◌∷◌, Ok, Err, Result}
 use Rattle.words.specs.Words.{part}
 use Rattle.state.specs.State.{State, blank}
 use Rattle.format.specs.Limits.{area}
 use Rattle.format.specs.declared.Size.{Size}
-use Rattle.answer.specs.declared.Answer.{Answer}
-use Rattle.answer.specs.declared.Answer.TheVariants.{Done, Refused}
 use Rattle.read_frame.specs.Frame.{FrameWalk, frame}
 use Rattle.read_frame.specs.Reading.{played}
 use Rattle.chunks.specs.declared.Layout.{Layout}
-use Rattle.chunks.specs.Spans.{HEADER_BYTES, Span, frame_spans, next_at}
-use Rattle.chunks.specs.declared.Next.{Next}
-use Rattle.chunks.specs.declared.Next.TheVariants.{Fault, Frame}
-use Rattle.reel_play.specs.declared.Ran.{Ran}
-use Rattle.reel_play.specs.declared.Ran.TheVariants.{Stopped, To}
+use Rattle.chunks.specs.declared.Frame.{Frame}
+use Rattle.chunks.specs.Spans.{HEADER_BYTES, Span, Next, frame_to, frame_spans, next_at}
+use Rattle.answer.specs.Answer.{refused_at, Answer}
+use Rattle.answer.specs.declared.Refused.{Refused}
 
--- what a run of frames came to, and the state after the last accepted frame
+-- what a run of frames came to: where the last one lies, or the first refusal with its place
+abbrev pub Ran : Type 0
+Ran = Result Frame Refused
+
+-- what it came to, and the state after the last accepted frame
 pub record Progress : Type 0 where
   pub result : Ran
   pub after : State
@@ -25,13 +26,13 @@ ran r s = record { result = r; after = s }
 
 -- a frame that lies from offset from up to end: accepted, or refused with its place counted from the front of the reel's bytes
 abbrev pub ran_by : ℕ → ℕ → FrameWalk → Answer → State → Progress
-ran_by from end f Done s = ran (To from end) (played f s)
-ran_by from end f (Refused e place) s = ran (Stopped e (from + place)) s
+ran_by from end f (Ok u) s = ran (Ok (frame_to from end)) (played f s)
+ran_by from end f (Err r) s = ran (Err (refused_at r.0 (from + r.1))) s
 
 -- a run, and after it, if it was accepted, what follows from where it ended
 abbrev pub then_on : Ran → State → (ℕ → ℕ → State → Progress) → Progress
-then_on (Stopped e place) s rest = ran (Stopped e place) s
-then_on (To last next) s rest = rest last next s
+then_on (Err r) s rest = ran (Err r) s
+then_on (Ok f) s rest = rest f.from f.end s
 
 module _ (z : Size) (b : List ℕ) where
   -- the frame from offset from up to end, read against s
@@ -39,13 +40,13 @@ module _ (z : Size) (b : List ℕ) where
   read from end s = ran_by from end (frame z (part b from end)) (frame z (part b from end)).answer s
 
   abbrev pub met : Next → State → Progress
-  met (Fault e place) s = ran (Stopped e place) s
-  met (Frame from end) s = read from end s
+  met (Err r) s = ran (Err r) s
+  met (Ok f) s = read f.from f.end s
 
   -- frames one after the other, and then how the walk over them is answered; a frame at last came before and ended at offset at
   abbrev pub in_turn : List Span → Answer → ℕ → ℕ → State → Progress
-  in_turn [] Done last at s = ran (To last at) s
-  in_turn [] (Refused e place) last at s = ran (Stopped e place) s
+  in_turn [] (Ok u) last at s = ran (Ok (frame_to last at)) s
+  in_turn [] (Err r) last at s = ran (Err r) s
   in_turn (f ∷ fs) a last at s = then_on (read f.from f.end s).result (read f.from f.end s).after (λ last' at' s'. in_turn fs a last' at' s')
 
 module _ (layout : Layout) (z : Size) (b : List ℕ) where

@@ -7,18 +7,11 @@ ghost use Rattle.state.specs.State.{blank, state, Exact};
 ghost use Rattle.chunks.specs.Spans.{HEADER_BYTES as header_bytes};
 ghost use Rattle.reel_play.specs.Play.{ran, one_frame, frames, shown, play_all};
 
-use answer::{Answer, Refusal};
-use chunks::{HEADER_BYTES, Layout, Next};
+use answer::Refused;
+use chunks::{Frame, HEADER_BYTES, Layout};
 use format::Size;
 
-// What a run of frames came to: the first refusal with its place, or where the last frame begins and ends.
-#[derive(Clone, Copy)]
-pub enum Ran {
-    Stopped(Refusal, usize),
-    To { last: usize, next: usize },
-}
-
-// Plays the next frame from offset at on.
+// Plays the next frame from offset at on, and gives where it lies.
 pub fn one_frame(
     picture: &mut [u8],
     palette: &mut [u8],
@@ -26,57 +19,35 @@ pub fn one_frame(
     layout: Layout,
     at: usize,
     size: Size,
-) -> Ran
+) -> Result<Frame, Refused>
     requires { (at ≤ length b.now) × Exact size (state picture.old palette.old) }
     ensures { ran result (state picture.new palette.new) ≡ one_frame layout size b.now at (state picture.old palette.old) }
 {
-    match chunks::step_at(b, layout, at) {
-        Next::Fault(e, place) => Ran::Stopped(e, place),
-        Next::Frame { from, end } => match read_frame::play_frame(
-            picture,
-            palette,
-            &b[from..end],
-            size,
-        ) {
-            Answer::Refused(e, place) => Ran::Stopped(e, from + place),
-            Answer::Done => Ran::To {
-                last: from,
-                next: end,
-            },
-        },
+    let frame = chunks::step_at(b, layout, at)?;
+    match read_frame::play_frame(picture, palette, &b[frame.from..frame.end], size) {
+        Ok(()) => Ok(frame),
+        Err(Refused(e, place)) => Err(Refused(e, frame.from + place)),
     }
 }
 
-// Plays count frames from offset start on, after a frame at before.
+// Plays count frames from the end of the frame before on, and gives where the last one lies.
 fn play_frames(
     picture: &mut [u8],
     palette: &mut [u8],
     b: &[u8],
     layout: Layout,
     count: usize,
-    before: usize,
-    start: usize,
+    before: Frame,
     size: Size,
-) -> Ran
-    requires { (start ≤ length b.now) × Exact size (state picture.old palette.old) }
-    ensures { ran result (state picture.new palette.new) ≡ frames layout size b.now count before start (state picture.old palette.old) }
+) -> Result<Frame, Refused>
+    requires { (before.end ≤ length b.now) × Exact size (state picture.old palette.old) }
+    ensures { ran result (state picture.new palette.new) ≡ frames layout size b.now count before.from before.end (state picture.old palette.old) }
 {
     let mut last = before;
-    let mut at = start;
-    let mut left = count;
-    while left > 0 {
-        match one_frame(picture, palette, b, layout, at, size) {
-            Ran::Stopped(e, place) => {
-                return Ran::Stopped(e, place);
-            }
-            Ran::To { last: from, next } => {
-                last = from;
-                at = next;
-            }
-        }
-        left = left - 1;
+    for _ in 0..count {
+        last = one_frame(picture, palette, b, layout, last.end, size)?;
     }
-    Ran::To { last, next: at }
+    Ok(last)
 }
 
 // Sets a pair to blank.
@@ -97,7 +68,7 @@ fn play_first(
     b: &[u8],
     layout: Layout,
     size: Size,
-) -> Ran
+) -> Result<Frame, Refused>
     requires { (header_bytes ≤ length b.now) × Exact size (state picture.old palette.old) × Exact size (state picture2.old palette2.old) }
     ensures first { ran result (state picture.new palette.new) ≡ one_frame layout size b.now header_bytes (blank (area size)) }
     ensures picture { picture2.new ≡ picture.new }
@@ -120,12 +91,10 @@ pub fn play_all(
     layout: Layout,
     more: usize,
     size: Size,
-) -> Ran
+) -> Result<Frame, Refused>
     requires { (header_bytes ≤ length b.now) × Exact size (state picture.old palette.old) × Exact size (state picture2.old palette2.old) }
     ensures { shown result (state picture.new palette.new) (state picture2.new palette2.new) ≡ play_all layout more size b.now }
 {
-    match play_first(picture, palette, picture2, palette2, b, layout, size) {
-        Ran::Stopped(e, place) => Ran::Stopped(e, place),
-        Ran::To { last, next } => play_frames(picture, palette, b, layout, more, last, next, size),
-    }
+    let first = play_first(picture, palette, picture2, palette2, b, layout, size)?;
+    play_frames(picture, palette, b, layout, more, first, size)
 }

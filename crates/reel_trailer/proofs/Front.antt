@@ -7,16 +7,15 @@ use native.Mathlib.Omega.{arith}
 use borrow.Author.Tests.{le-leb}
 use lib.ListN.{length, take, get_or}
 use lib.Seq.{get_or-take}
+use Rattle.std.specs.Prelude.{Ok, Err}
 use Rattle.words.specs.Words.{u16_at, u32_at}
 use Rattle.format.specs.declared.Format.{Format}
 use Rattle.format.specs.declared.Format.TheVariants.{Flc, Fli}
 use Rattle.format.specs.declared.Size.{Size}
 use Rattle.delay.specs.declared.Milliseconds.{Milliseconds}
 use Rattle.chunks.specs.Spans.{HEADER_BYTES}
-use Rattle.reel_header.specs.Head.{SIZE_AT, MAGIC_AT, FRAMES_AT, WIDTH_AT, HEIGHT_AT, DEPTH_AT, FLAGS_AT, SPEED_AT, delay_in, delay_at, format_at, size_at, head_of}
+use Rattle.reel_header.specs.Head.{SIZE_AT, MAGIC_AT, FRAMES_AT, WIDTH_AT, HEIGHT_AT, DEPTH_AT, FLAGS_AT, SPEED_AT, delay_in, delay_at, format_at, size_at, head_of, head_with, Headed}
 use Rattle.reel_header.specs.declared.Takes.{Takes}
-use Rattle.reel_header.specs.declared.Head.{Head}
-use Rattle.reel_header.specs.declared.Head.TheVariants.{Fault, Reel}
 use Rattle.reel_header.proofs.Laws.{ReelIn, Gives, head_is, head_by, head_in}
 
 -- words
@@ -36,22 +35,22 @@ module _ (b c : List ℕ) (n : ℕ) (e : take n c ≡ take n b) where
 -- the file header
 
 -- its size is the first word
-abbrev SizeIs : ℕ → Head → Type 0
-SizeIs s (Fault e) = Unit {0}
-SizeIs s (Reel z frames size speed) = s ≡ size
+abbrev SizeIs : ℕ → Headed → Type 0
+SizeIs s (Err e) = Unit {0}
+SizeIs s (Ok h) = s ≡ h.size
 
-module _ (takes : Takes) (b : List ℕ) (z : Size) (frames size : ℕ) (speed : Milliseconds) (k : head_of takes b ≡ Reel z frames size speed) where
+module _ (takes : Takes) (b : List ℕ) (z : Size) (frames size : ℕ) (speed : Milliseconds) (k : head_of takes b ≡ Ok (head_with z frames size speed)) where
   pub head_word : u32_at b SIZE_AT ≡ size
-  head_word = head_by takes b (SizeIs (u32_at b SIZE_AT)) (λ e. tt) (λ p. refl) (Reel z frames size speed) k
+  head_word = head_by takes b (SizeIs (u32_at b SIZE_AT)) (λ e. tt) (λ p. refl) (Ok (head_with z frames size speed)) k
 
-  pub head_front : (c : List ℕ) → take size c ≡ take size b → size ≤ length c → head_of takes c ≡ Reel z frames size speed
+  pub head_front : (c : List ℕ) → take size c ≡ take size b → size ≤ length c → head_of takes c ≡ Ok (head_with z frames size speed)
   head_front c e l = head_by takes b (Gives takes c) (λ e. tt) (λ p.
       sym (head_is takes c _ _ (size_at b) _ _ _ (delay_at (format_at b) b) true true true true true true
       (word MAGIC_AT (omega arith)) (word32 SIZE_AT (omega arith)) (rw (word MAGIC_AT (omega arith), word WIDTH_AT (omega arith), word HEIGHT_AT (omega arith)))
       (word FRAMES_AT (omega arith)) (word DEPTH_AT (omega arith)) (word FLAGS_AT (omega arith)) (delay (format_at b))
       (le-leb HEADER_BYTES (length c) (omega (arith, inside.least))) p.magic p.least
       (le-leb (u32_at b SIZE_AT) (length c) (omega (arith, head_word))) p.sized p.form))
-      (Reel z frames size speed) k
+      (Ok (head_with z frames size speed)) k
     where
       inside : ReelIn b z frames size
       inside = head_in takes b _ k

@@ -9,28 +9,25 @@ use borrow.Author.Tests.{le-leb, lt-leb}
 use lib.Dec.{leb}
 use lib.ListN.{length, take, drop, get_or, replicate, length-append, length-drop, length-replicate, drop_of_length-le}
 use lib.Seq.{length-take-le, take_all, take_at, drop-drop}
+use Rattle.std.specs.Prelude.{Ok, Err}
 use Rattle.words.specs.Words.{part, le16, le32, same}
 use Rattle.words.specs.Writes.{put}
 use Rattle.words.proofs.Laws.{put_front, length_put, span_length, span_back, put_nil, put_append, put_then}
 use Rattle.format.specs.declared.Size.{Size}
 use Rattle.delay.specs.declared.Milliseconds.{Milliseconds}
-use Rattle.answer.specs.Answer.{done, refused, number}
+use Rattle.answer.specs.Answer.{done, refused, number, refused_at, Answer, placed}
 use Rattle.format.specs.Limits.{max_frames}
 use Rattle.answer.specs.declared.Refusal.{Refusal}
 use Rattle.answer.specs.declared.Refusal.TheVariants.{NoRoom, BadTrailer}
-use Rattle.answer.specs.declared.Answer.{Answer}
-use Rattle.answer.specs.declared.Answer.TheVariants.{Done}
 use Rattle.state.specs.Outcome.{lent_bytes, leaves, refuse}
-use Rattle.chunks.specs.Spans.{HEADER_BYTES, top_frames, extent}
-use Rattle.chunks.specs.declared.Extent.{Extent}
-use Rattle.chunks.specs.declared.Extent.TheVariants as extent-is
+use Rattle.chunks.specs.Spans.{HEADER_BYTES, top_frames, extent, Extent}
 use Rattle.chunks.proofs.Spans.{answer_of, extent_answer, found_many}
-use Rattle.reel_header.specs.Head.{head_of}
+use Rattle.reel_header.specs.Head.{head_of, head_with, Headed}
 use Rattle.reel_header.specs.declared.Takes.TheVariants.{FlcOnly}
-use Rattle.reel_header.specs.declared.Head.TheVariants as head
 use Rattle.reel_header.proofs.Laws.{head_in}
 use Rattle.reel_trailer.specs.Trailer.{index, trailer_of, TrailerWalk, stopped, reel, after_frames, after_head, trailer_walk, checked_after, check_trailer, written_after, write_trailer}
 use Rattle.reel_trailer.specs.Room.{Walked, trailer_most, padded}
+use Rattle.answer.specs.declared.Refused.{Refused}
 
 -- index
 
@@ -68,7 +65,7 @@ trailer_length os =
     length-append (index os) (le32 (4 * length os + 8) (le16 (length os) (le16 1 []))) ∙ ap (λ (n : ℕ). n + 8) (index_length os)
 
 -- where all of count frames were met
-pub trailer_many : (b : List ℕ) (count : ℕ) → (top_frames b count HEADER_BYTES).answer ≡ Done
+pub trailer_many : (b : List ℕ) (count : ℕ) → (top_frames b count HEADER_BYTES).answer ≡ Ok tt
     → length (trailer_of (top_frames b count HEADER_BYTES).offsets) ≡ 4 * count + 8
 trailer_many b count m = trailer_length (top_frames b count HEADER_BYTES).offsets ∙ ap (λ (n : ℕ). 4 * n + 8) (found_many b count HEADER_BYTES m)
 
@@ -156,12 +153,21 @@ module _ (os : List ℕ) (count : ℕ) (d x₁ x₂ x₃ x₄ : List ℕ) where
 
 -- trailer_walk
 
-pub walk_fault : (b : List ℕ) (e : Refusal) → head_of FlcOnly b ≡ head.Fault e → trailer_walk b ≡ stopped e 0
+pub walk_fault : (b : List ℕ) (e : Refusal) → head_of FlcOnly b ≡ Err e → trailer_walk b ≡ stopped e 0
 unfolding trailer_walk
 walk_fault b e k = ap (after_head b) k
 
+-- where the header's refusal has its place
+pub walk_placed : (b : List ℕ) (r : Refused) → placed 0 (head_of FlcOnly b) ≡ Err r → trailer_walk b ≡ stopped r.0 r.1
+walk_placed b r = go (head_of FlcOnly b) refl
+  where
+    go : (x : Headed) → head_of FlcOnly b ≡ x → placed 0 x ≡ Err r → trailer_walk b ≡ stopped r.0 r.1
+    go (Err e) k q = let same : refused_at e 0 ≡ r = cc in walk_fault b e k ∙ ap (λ (d : Refused). stopped d.0 d.1) same
+    go (Ok h) k q = let z : ◌≡◌ {A = ℕ} 0 1 = cc in absurd (omega arith)
+
 -- n and m: the length of the range up to the size, and the number of frames with the ring, as the code has them
-module _ (b : List ℕ) (z : Size) (frames size : ℕ) (speed : Milliseconds) (k : head_of FlcOnly b ≡ head.Reel z frames size speed) (n m : ℕ) (en : n ≡ size) (em : m ≡ suc frames) where
+module _ (b : List ℕ) (z : Size) (frames size : ℕ) (speed : Milliseconds) (k : head_of FlcOnly b ≡ Ok (head_with z frames size speed))
+    (n m : ℕ) (en : n ≡ size) (em : m ≡ suc frames) where
   abbrev after : Answer → TrailerWalk
   after = after_frames size (top_frames (take n b) m HEADER_BYTES).offsets
 
@@ -176,7 +182,7 @@ module _ (b : List ℕ) (z : Size) (frames size : ℕ) (speed : Milliseconds) (k
   pub walk_to : (x : Extent) → extent (take n b) m HEADER_BYTES ≡ x → trailer_walk b ≡ after (answer_of x)
   walk_to x q = walk_frames (answer_of x) (extent_answer (take n b) m HEADER_BYTES ∙ ap answer_of q)
 
-  pub walked_in : (end : ℕ) → extent (take n b) m HEADER_BYTES ≡ extent-is.End end → Walked (take n b) m
+  pub walked_in : (end : ℕ) → extent (take n b) m HEADER_BYTES ≡ Ok end → Walked (take n b) m
   walked_in end q =
       let i = head_in FlcOnly b _ k in
       record {
@@ -199,12 +205,12 @@ module _ (b : List ℕ) (size : ℕ) (t : List ℕ) (k : trailer_walk b ≡ reel
   pub checked_bare : length b ≡ size → check_trailer b ≡ done []
   checked_bare l = checked_by_lem true _ (le-leb (length b) size (omega arith)) refl
 
-  -- r: whether what follows the size, l bytes, is the trailer; found to be y
-  pub checked_compared : size < length b → (l : ℕ) → l ≡ length b - size → (r y : Bool) → r ≡ same (take l (drop size b)) t → r ≡ y
+  -- r: whether what follows the size is the trailer; found to be y
+  pub checked_compared : size < length b → (r y : Bool) → r ≡ same (take (length b - size) (drop size b)) t → r ≡ y
       → check_trailer b ≡ cond y (done []) (refused (number BadTrailer) 0)
-  checked_compared s l el r y e f =
+  checked_compared s r y e f =
       checked_by_lem false y (lt-leb (length b) size s)
-      (ap (λ (x : List ℕ). same x t) (sym (take_all l (drop size b) (omega (arith, length-drop size b)))) ∙ sym e ∙ f)
+      (ap (λ (x : List ℕ). same x t) (sym (take_all (length b - size) (drop size b) (omega (arith, length-drop size b)))) ∙ sym e ∙ f)
 
 -- write_trailer
 

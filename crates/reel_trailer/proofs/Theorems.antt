@@ -14,6 +14,7 @@ use borrow.Author.Tests.{leb-true, leb-false}
 use lib.Dec.{leb}
 use lib.ListN.{length, take, drop, get_or, length-append}
 use lib.Seq.{length-take-le, take_all, take_at, drop_at, take-take, drop-drop}
+use Rattle.std.specs.Prelude.{Ok, Err}
 use Rattle.words.specs.Words.{u32_at, le16, le32, same, Bytes}
 use Rattle.words.specs.Writes.{put}
 use Rattle.words.proofs.Laws.{length_put, same_refl, bytes_get_d}
@@ -22,20 +23,16 @@ use Rattle.words.proofs.Tests.{by_test}
 use Rattle.format.specs.Limits.{area}
 use Rattle.format.specs.declared.Size.{Size}
 use Rattle.delay.specs.declared.Milliseconds.{Milliseconds}
-use Rattle.answer.specs.Answer.{done, refused, number}
+use Rattle.answer.specs.Answer.{done, refused, number, Answer}
 use Rattle.answer.specs.declared.Refusal.{Refusal}
 use Rattle.answer.specs.declared.Refusal.TheVariants.{ShortSlice, NoRoom}
-use Rattle.answer.specs.declared.Answer.{Answer}
-use Rattle.answer.specs.declared.Answer.TheVariants.{Done, Refused}
 use Rattle.state.specs.State.{State, enough}
 use Rattle.state.specs.Outcome.{Outcome, lent_bytes, lent_pairs, refuse}
 use Rattle.chunks.specs.Spans.{HEADER_BYTES, Found, top_frames}
 use Rattle.chunks.specs.declared.Layout.TheVariants.{Loose}
 use Rattle.chunks.proofs.Spans.{found_many, found_in}
-use Rattle.reel_header.specs.Head.{head_of}
+use Rattle.reel_header.specs.Head.{head_of, head_with, Headed}
 use Rattle.reel_header.specs.declared.Takes.TheVariants.{FlcOnly, Both}
-use Rattle.reel_header.specs.declared.Head.{Head}
-use Rattle.reel_header.specs.declared.Head.TheVariants.{Fault, Reel}
 use Rattle.reel_header.proofs.Laws.{head_in, head_flc}
 use Rattle.reel_play.specs.Play.{play_all}
 use Rattle.reel_check.specs.Check.{checked_by, after_head, check_reel}
@@ -55,7 +52,7 @@ trailer b frames size = trailer_of (frames_of b frames size).offsets
 
 -- the trailer was written, with n as the file's new length
 record Wrote (b : List ℕ) (frames size n : ℕ) : Type 0 where
-  met : (frames_of b frames size).answer ≡ Done
+  met : (frames_of b frames size).answer ≡ Ok tt
   end : n ≡ size + length (trailer b frames size)
   room : n ≤ length b
   bytes : after b ≡ put b size (trailer b frames size)
@@ -71,15 +68,15 @@ refused_not_done b n e place o s =
     let r : (write_trailer b).said ≡ refused (number e) place = ap (λ (x : Outcome). x.said) o in
     let z : ◌≡◌ {A = ℕ} 0 1 = cc in absurd (omega arith)
 
-module _ (b : List ℕ) (z : Size) (frames size : ℕ) (speed : Milliseconds) (k : head_of FlcOnly b ≡ Reel z frames size speed) where
+module _ (b : List ℕ) (z : Size) (frames size : ℕ) (speed : Milliseconds) (k : head_of FlcOnly b ≡ Ok (head_with z frames size speed)) where
   result : Result b frames size
   result = by_answer (frames_of b frames size).answer refl
     where
       by_answer : (a : Answer) → (frames_of b frames size).answer ≡ a → Result b frames size
-      by_answer (Refused e place) q = kept e place (wrote_refused b e place (walk_frames b z frames size speed k size (suc frames) refl refl _ q))
-      by_answer Done q =
+      by_answer (Err r) q = kept r.0 r.1 (wrote_refused b r.0 r.1 (walk_frames b z frames size speed k size (suc frames) refl refl _ q))
+      by_answer (Ok u) q =
           let t = trailer b frames size in
-          let m : trailer_walk b ≡ reel size t = walk_frames b z frames size speed k size (suc frames) refl refl Done q in
+          let m : trailer_walk b ≡ reel size t = walk_frames b z frames size speed k size (suc frames) refl refl (Ok tt) q in
           by_test (λ x. Result b frames size) (leb (size + length t) (length b))
           (λ e. let l = leb-true (size + length t) (length b) e in
           let o = wrote_done b size t m _ refl l in
@@ -107,7 +104,8 @@ module _ (b : List ℕ) (z : Size) (frames size : ℕ) (speed : Milliseconds) (k
 
 -- the check accepts it
 
-module _ (b : List ℕ) (z : Size) (frames size : ℕ) (speed : Milliseconds) (n : ℕ) (k : head_of FlcOnly b ≡ Reel z frames size speed) (i : Wrote b frames size n) where
+module _ (b : List ℕ) (z : Size) (frames size : ℕ) (speed : Milliseconds) (n : ℕ) (k : head_of FlcOnly b ≡ Ok (head_with z frames size speed))
+    (i : Wrote b frames size n) where
   -- the file cut to its new length is the reel and the trailer
   written_file : take n (after b) ≡ take size b ++ trailer b frames size
   written_file =
@@ -128,18 +126,18 @@ module _ (b : List ℕ) (z : Size) (frames size : ℕ) (speed : Milliseconds) (n
       let same-frames : frames_of f frames size ≡ frames_of b frames size = ap (λ (x : List ℕ). top_frames x (suc frames) HEADER_BYTES) front in
       let rest : take (length f - size) (drop size f) ≡ t = ap (take (length f - size)) back ∙ take_all (length f - size) t (omega arith) in
       checked_compared f size (trailer f frames size)
-      (walk_frames f z frames size speed (head_front FlcOnly b z frames size speed k f front (omega arith)) size (suc frames) refl refl Done
+      (walk_frames f z frames size speed (head_front FlcOnly b z frames size speed k f front (omega arith)) size (suc frames) refl refl (Ok tt)
       (ap (λ (x : Found). x.answer) same-frames ∙ i.met))
-      (omega arith) (length f - size) refl _ true refl (ap₂ same rest (ap (λ (x : Found). trailer_of x.offsets) same-frames) ∙ same_refl t)
+      (omega arith) _ true refl (ap₂ same rest (ap (λ (x : Found). trailer_of x.offsets) same-frames) ∙ same_refl t)
 
 pub written_accepted : (b : List ℕ) (n : ℕ) → (write_trailer b).said ≡ done (n ∷ []) → check_trailer (take n (write_trailer b).memory.bytes) ≡ done []
 written_accepted b n s = by_head (head_of FlcOnly b) refl
   where
-    by_head : (x : Head) → head_of FlcOnly b ≡ x → check_trailer (take n (after b)) ≡ done []
-    by_head (Fault e) k = refused_not_done b n e 0 (wrote_refused b e 0 (walk_fault b e k)) s
-    by_head (Reel z frames size speed) k =
-        let i = wrote_in b z frames size speed k n s in
-        file_accepted b z frames size speed n k i (take n (after b)) (written_file b z frames size speed n k i)
+    by_head : (x : Headed) → head_of FlcOnly b ≡ x → check_trailer (take n (after b)) ≡ done []
+    by_head (Err e) k = refused_not_done b n e 0 (wrote_refused b e 0 (walk_fault b e k)) s
+    by_head (Ok h) k =
+        let i = wrote_in b h.picture h.frames h.size h.speed k n s in
+        file_accepted b h.picture h.frames h.size h.speed n k i (take n (after b)) (written_file b h.picture h.frames h.size h.speed n k i)
 
 -- its entries
 
@@ -154,7 +152,7 @@ trailer_entry os i more h =
     let tail = le32 (4 * length os + 8) (le16 (length os) (le16 1 [])) in
     ap (drop (4 * i)) (append_assoc (index os) tail more) ∙ index_entry os (tail ++ more) i h
 
-pub entries_are : (b : List ℕ) (z : Size) (frames size : ℕ) (speed : Milliseconds) (n : ℕ) → Bytes b → head_of FlcOnly b ≡ Reel z frames size speed
+pub entries_are : (b : List ℕ) (z : Size) (frames size : ℕ) (speed : Milliseconds) (n : ℕ) → Bytes b → head_of FlcOnly b ≡ Ok (head_with z frames size speed)
     → (write_trailer b).said ≡ done (n ∷ [])
     → (i : ℕ) → i ≤ frames → u32_at (write_trailer b).memory.bytes (size + 4 * i) ≡ get_or (top_frames (take size b) (suc frames) HEADER_BYTES).offsets i 0
 entries_are b z frames size speed n bytes k s i le =
@@ -179,33 +177,33 @@ entries_are b z frames size speed n bytes k s i le =
 
 module _ (b : List ℕ) (first second : State) where
   -- c holds the same reel
-  check_front : (c : List ℕ) (z : Size) (frames size : ℕ) (speed : Milliseconds) → head_of FlcOnly b ≡ Reel z frames size speed → take size c
+  check_front : (c : List ℕ) (z : Size) (frames size : ℕ) (speed : Milliseconds) → head_of FlcOnly b ≡ Ok (head_with z frames size speed) → take size c
       ≡ take size b → size ≤ length c → check_reel c first second ≡ check_reel b first second
   unfolding check_reel
   check_front c z frames size speed k e l =
       let both = head_flc b z frames size speed k in
-      ap (λ (x : Head). after_head c x first second) (head_front Both b z frames size speed both c e l)
+      ap (λ (x : Headed). after_head c x first second) (head_front Both b z frames size speed both c e l)
       ∙ ap (λ (x : List ℕ). cond (enough (area z) first && enough (area z) second) (checked_by (area z) (play_all Loose frames z x) first second)
       (refuse ShortSlice 0 (lent_pairs first second))) e
-      ∙ sym (ap (λ (x : Head). after_head b x first second) both)
+      ∙ sym (ap (λ (x : Headed). after_head b x first second) both)
 
   pub check_same : check_reel (write_trailer b).memory.bytes first second ≡ check_reel b first second
   check_same = by_head (head_of FlcOnly b) refl
     where
-      by_head : (x : Head) → head_of FlcOnly b ≡ x → check_reel (after b) first second ≡ check_reel b first second
-      by_head (Fault e) k = ap (λ (x : Outcome). check_reel x.memory.bytes first second) (wrote_refused b e 0 (walk_fault b e k))
-      by_head (Reel z frames size speed) k =
-          let f = written_front b z frames size speed k in
-          check_front (after b) z frames size speed k f.0 (omega (arith, f.1, (head_in FlcOnly b _ k).most))
+      by_head : (x : Headed) → head_of FlcOnly b ≡ x → check_reel (after b) first second ≡ check_reel b first second
+      by_head (Err e) k = ap (λ (x : Outcome). check_reel x.memory.bytes first second) (wrote_refused b e 0 (walk_fault b e k))
+      by_head (Ok h) k =
+          let f = written_front b h.picture h.frames h.size h.speed k in
+          check_front (after b) h.picture h.frames h.size h.speed k f.0 (omega (arith, f.1, (head_in FlcOnly b _ k).most))
 
   pub check_same_cut : (n : ℕ) → (write_trailer b).said ≡ done (n ∷ []) → check_reel (take n (write_trailer b).memory.bytes) first second
       ≡ check_reel b first second
   check_same_cut n s = by_head (head_of FlcOnly b) refl
     where
-      by_head : (x : Head) → head_of FlcOnly b ≡ x → check_reel (take n (after b)) first second ≡ check_reel b first second
-      by_head (Fault e) k = refused_not_done b n e 0 (wrote_refused b e 0 (walk_fault b e k)) s
-      by_head (Reel z frames size speed) k =
-          let i = wrote_in b z frames size speed k n s in
-          let f = written_front b z frames size speed k in
+      by_head : (x : Headed) → head_of FlcOnly b ≡ x → check_reel (take n (after b)) first second ≡ check_reel b first second
+      by_head (Err e) k = refused_not_done b n e 0 (wrote_refused b e 0 (walk_fault b e k)) s
+      by_head (Ok h) k =
+          let i = wrote_in b h.picture h.frames h.size h.speed k n s in
+          let f = written_front b h.picture h.frames h.size h.speed k in
           let long = length-take-le n (after b) (omega (arith, i.room, f.1)) in
-          check_front (take n (after b)) z frames size speed k (take-take size n (after b) (omega (arith, i.end)) ∙ f.0) (omega (arith, i.end))
+          check_front (take n (after b)) h.picture h.frames h.size h.speed k (take-take h.size n (after b) (omega (arith, i.end)) ∙ f.0) (omega (arith, i.end))

@@ -1,18 +1,14 @@
 -- "After the size may stand an index .. then at the very end a trailer" (document 01, "Reels and the trailer").
-use Rattle.std.specs.Prelude.{ℕ, suc, ◌+◌, ◌*◌, List, [], ◌∷◌, ◌++◌, ◌||◌, leb, length, take, drop}
+use Rattle.std.specs.Prelude.{ℕ, suc, ◌+◌, ◌*◌, List, [], ◌∷◌, ◌++◌, ◌||◌, leb, length, take, drop, Ok, Err}
 use Rattle.words.specs.Words.{require◌else◌then◌, le16, le32, same}
 use Rattle.words.specs.Writes.{put}
-use Rattle.answer.specs.Answer.{Said, done, refused, number}
+use Rattle.answer.specs.Answer.{Said, done, refused, number, Answer}
 use Rattle.answer.specs.declared.Refusal.{Refusal}
 use Rattle.answer.specs.declared.Refusal.TheVariants.{NoRoom, BadTrailer}
-use Rattle.answer.specs.declared.Answer.{Answer}
-use Rattle.answer.specs.declared.Answer.TheVariants.{Done, Refused}
 use Rattle.state.specs.Outcome.{Outcome, lent_bytes, leaves, refuse}
 use Rattle.chunks.specs.Spans.{HEADER_BYTES, Found, top_frames}
-use Rattle.reel_header.specs.Head.{head_of}
+use Rattle.reel_header.specs.Head.{head_of, Headed}
 use Rattle.reel_header.specs.declared.Takes.TheVariants.{FlcOnly}
-use Rattle.reel_header.specs.declared.Head.{Head}
-use Rattle.reel_header.specs.declared.Head.TheVariants.{Fault, Reel}
 
 -- "an index: 4 bytes for each frame's offset, ring included"
 unfoldable pub index : List ℕ → List ℕ
@@ -31,16 +27,16 @@ pub data TrailerWalk : Type 0 where
   reel : ℕ → List ℕ → TrailerWalk
 
 abbrev pub after_frames : ℕ → List ℕ → Answer → TrailerWalk
-after_frames size offsets Done = reel size (trailer_of offsets)
-after_frames size offsets (Refused e place) = stopped e place
+after_frames size offsets (Ok u) = reel size (trailer_of offsets)
+after_frames size offsets (Err r) = stopped r.0 r.1
 
 -- frames + 1 of them, up to the size
 abbrev pub frames_of : List ℕ → ℕ → ℕ → Found
 frames_of bytes frames size = top_frames (take size bytes) (suc frames) HEADER_BYTES
 
-abbrev pub after_head : List ℕ → Head → TrailerWalk
-after_head bytes (Fault e) = stopped e 0
-after_head bytes (Reel picture frames size speed) = after_frames size (frames_of bytes frames size).offsets (frames_of bytes frames size).answer
+abbrev pub after_head : List ℕ → Headed → TrailerWalk
+after_head bytes (Err e) = stopped e 0
+after_head bytes (Ok h) = after_frames h.size (frames_of bytes h.frames h.size).offsets (frames_of bytes h.frames h.size).answer
 
 -- "trailers and later work that checks a trailer stay FLC" (document 02, Req 06)
 unfoldable pub trailer_walk : List ℕ → TrailerWalk

@@ -8,12 +8,12 @@ ghost use Rattle.answer.specs.Answer.{told, told_written};
 ghost use Rattle.state.specs.Outcome.{lent_bytes, leaves};
 ghost use Rattle.chunks.specs.Spans.{HEADER_BYTES as header_bytes, top_frames};
 ghost use Rattle.reel_trailer.specs.Trailer.{index, trailer_of, check_trailer, write_trailer};
-ghost use Rattle.reel_trailer.specs.Room.{Walked, padded};
+ghost use Rattle.reel_trailer.specs.Room.{Walked, padded, WholeReel};
 
-use answer::{Answer, Refusal, Written};
-use chunks::{Extent, HEADER_BYTES, Next};
+use answer::{Refusal, Refused};
+use chunks::HEADER_BYTES;
 use format::MAX_FRAMES;
-use reel_header::{Head, Takes};
+use reel_header::Takes;
 
 // The most bytes of an index and its trailer: 4 for each of the most frames and the ring, and 8.
 const TRAILER_MOST: usize = 4 * (MAX_FRAMES + 1) + 8;
@@ -24,24 +24,20 @@ fn put_index(out: &mut [u8], b: &[u8], count: usize)
     ensures { out.new ≡ put out.old 0 (index (top_frames b.now count header_bytes).offsets) }
 {
     let mut at = HEADER_BYTES;
-    let mut to = 0;
-    let mut left = count;
-    while left > 0 {
+    for k in 0..count {
         match chunks::next_at(b, at) {
-            Next::Fault(_, _) => {
+            Err(_) => {
                 return;
             }
-            Next::Frame { from, end } => {
-                words::put_u32(out, to, from);
-                to = to + 4;
-                at = end;
+            Ok(frame) => {
+                words::put_u32(out, 4 * k, frame.from);
+                at = frame.end;
             }
         }
-        left = left - 1;
     }
 }
 
-// A buffer of zeros.
+// A buffer of zeros: memory of fixed size, as no heap is used.
 fn zeros() -> [u8; TRAILER_MOST]
     ensures { result ≡ padded [] }
 {
@@ -72,57 +68,52 @@ fn same_trailer(rest: &[u8], b: &[u8], count: usize) -> bool
         return false;
     }
     let trailer = trailer_of(b, count);
-    words::same_bytes(rest, &trailer[0..n])
+    words::same_bytes(rest, &trailer[..n])
+}
+
+// A reel that stands at the front of some bytes: its size, and how many frames it has, the ring counted.
+#[derive(Clone, Copy)]
+struct Whole {
+    size: usize,
+    count: usize,
+}
+
+// The reel at the front of bytes, after the walk over its header and its frames.
+fn whole_reel(bytes: &[u8]) -> Result<Whole, Refused>
+    ensures { WholeReel bytes.now result }
+{
+    let head = answer::placed(reel_header::head_of(Takes::FlcOnly, bytes), 0)?;
+    let count = head.frames + 1;
+    chunks::walk_frames(&bytes[..head.size], count)?;
+    Ok(Whole {
+        size: head.size,
+        count,
+    })
 }
 
 // Checks what stands behind a reel: nothing, or its index and trailer.
-pub fn check_trailer(bytes: &[u8]) -> Answer
+pub fn check_trailer(bytes: &[u8]) -> Result<(), Refused>
     ensures { told result ≡ check_trailer bytes.now }
 {
-    match reel_header::head_of(Takes::FlcOnly, bytes) {
-        Head::Fault(e) => Answer::Refused(e, 0),
-        Head::Reel {
-            picture: _,
-            frames,
-            size,
-            speed: _,
-        } => match chunks::walk_frames(&bytes[0..size], frames + 1) {
-            Extent::Fault(e, place) => Answer::Refused(e, place),
-            Extent::End(_) => {
-                if bytes.len() == size {
-                    return Answer::Done;
-                }
-                if same_trailer(&bytes[size..bytes.len()], &bytes[0..size], frames + 1) {
-                    return Answer::Done;
-                }
-                Answer::Refused(Refusal::BadTrailer, 0)
-            }
-        },
+    let reel = whole_reel(bytes)?;
+    if bytes.len() == reel.size
+        || same_trailer(&bytes[reel.size..], &bytes[..reel.size], reel.count)
+    {
+        return Ok(());
     }
+    Err(Refused(Refusal::BadTrailer, 0))
 }
 
 // Writes the index and trailer behind the reel at the front of the lent bytes; done gives the file's new length.
-pub fn write_trailer(bytes: &mut [u8]) -> Written
+pub fn write_trailer(bytes: &mut [u8]) -> Result<usize, Refused>
     ensures { leaves (told_written result) (lent_bytes bytes.new) ≡ write_trailer bytes.old }
 {
-    match reel_header::head_of(Takes::FlcOnly, bytes) {
-        Head::Fault(e) => Written::Refused(e, 0),
-        Head::Reel {
-            picture: _,
-            frames,
-            size,
-            speed: _,
-        } => match chunks::walk_frames(&bytes[0..size], frames + 1) {
-            Extent::Fault(e, place) => Written::Refused(e, place),
-            Extent::End(_) => {
-                let n = 4 * (frames + 1) + 8;
-                if bytes.len() - size < n {
-                    return Written::Refused(Refusal::NoRoom, 0);
-                }
-                let trailer = trailer_of(&bytes[0..size], frames + 1);
-                words::copy(&mut bytes[size..size + n], &trailer[0..n]);
-                Written::Done(size + n)
-            }
-        },
+    let reel = whole_reel(bytes)?;
+    let n = 4 * reel.count + 8;
+    if bytes.len() - reel.size < n {
+        return Err(Refused(Refusal::NoRoom, 0));
     }
+    let trailer = trailer_of(&bytes[..reel.size], reel.count);
+    words::copy(&mut bytes[reel.size..reel.size + n], &trailer[..n]);
+    Ok(reel.size + n)
 }

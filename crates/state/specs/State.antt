@@ -2,6 +2,7 @@
 use Rattle.std.specs.Prelude.{ℕ, ◌*◌, ◌≡◌, List, ◌++◌, Bool, ◌&&◌, length, take, drop, replicate, leb}
 use Rattle.format.specs.Limits.{Sized}
 use Rattle.format.specs.declared.Size.{Size}
+use Rattle.state.specs.declared.Pair.{Pair}
 
 -- a picture and a palette; a lent pair of slices too, which may be longer
 pub record State : Type 0 where
@@ -10,6 +11,10 @@ pub record State : Type 0 where
 
 abbrev pub state : List ℕ → List ℕ → State
 state p q = record { picture = p; palette = q }
+
+-- what a lent pair holds
+abbrev pub shown : Pair → State
+shown p = state p.picture.now p.palette.now
 
 -- document 01's "Blank: all pixels and palette bytes 0", of a picture of n pixels
 unfoldable pub blank : ℕ → State

@@ -2,15 +2,14 @@
 use mathlib.Core.Path.{◌≡◌, refl, sym, ap, ◌∙◌, subst}
 use mathlib.Core.List.{List}
 use Prim.Native.Nat.{ℕ}
+use Rattle.std.specs.Prelude.{Ok}
 use Rattle.words.specs.Writes.{put, applied}
 use Rattle.words.proofs.Laws.{applied_append}
-use Rattle.walk.specs.Walk.{Walk, ends, and_then, onward, followed}
-use Rattle.walk.specs.declared.Verdict.{Verdict}
-use Rattle.walk.specs.declared.Verdict.TheVariants.{Ends}
+use Rattle.walk.specs.Walk.{Walk, ends, and_then, onward, followed, Verdict}
 
 -- a walk with no fault, whose data ends at end and whose writes turn d into e
 pub record Gives (k : Walk) (end : ℕ) (d e : List ℕ) : Type 0 where
-  pub ended : k.verdict ≡ Ends end
+  pub ended : k.verdict ≡ Ok end
   pub result : applied k.writes d ≡ e
 
 pub gives_ends : (at : ℕ) (d : List ℕ) → Gives (ends at) at d d
@@ -34,4 +33,4 @@ gives_as {k} {k'} {end} {d} {e} p g = subst (λ (x : Walk). Gives x end d e) (sy
 
 pub gives_to : {k : Walk} {end end' : ℕ} {d d' e e' : List ℕ} → end ≡ end' → d ≡ d' → e ≡ e' → Gives k end d e → Gives k end' d' e'
 gives_to {k} {end} {end'} {d} {d'} {e} {e'} n p q g =
-    record { ended = g.ended ∙ ap Ends n; result = ap (λ (x : List ℕ). applied k.writes x) (sym p) ∙ g.result ∙ q }
+    record { ended = g.ended ∙ ap Ok n; result = ap (λ (x : List ℕ). applied k.writes x) (sym p) ∙ g.result ∙ q }

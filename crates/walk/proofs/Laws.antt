@@ -4,12 +4,11 @@ use mathlib.Core.List.{List, [], ◌∷◌, ◌++◌}
 use Prim.Native.Nat.{ℕ, ◌≤◌}
 use native.Mathlib.Omega.{arith}
 use lib.ListN.{length}
+use Rattle.std.specs.Prelude.{Ok, Err}
 use Rattle.words.specs.Writes.{Write, put, applied}
 use Rattle.words.proofs.Laws.{applied_append}
 use Rattle.answer.specs.declared.Refusal.{Refusal}
-use Rattle.walk.specs.Walk.{Walk, and_then, onward, followed, stored, wrote}
-use Rattle.walk.specs.declared.Verdict.{Verdict}
-use Rattle.walk.specs.declared.Verdict.TheVariants.{Ends, Fault}
+use Rattle.walk.specs.Walk.{Walk, and_then, onward, followed, stored, wrote, Verdict}
 use Rattle.walk.specs.declared.Pass.{Pass}
 use Rattle.walk.specs.declared.Pass.TheVariants.{Dry, Wet}
 
@@ -61,21 +60,21 @@ seen_then p at v d k = ap (λ (x : List ℕ). (k.verdict, x)) (wrote_then p at v
 
 -- one walk, which leaves e of d, and then another: where the first ended, and where it met a fault
 module _ (p : Pass) (w : Walk) (k : ℕ → Walk) (d e : List ℕ) (left : e ≡ wrote p w.writes d) where
-  pub seen_onward : (at : ℕ) → w.verdict ≡ Ends at → seen p (followed w k) d ≡ seen p (k at) e
+  pub seen_onward : (at : ℕ) → w.verdict ≡ Ok at → seen p (followed w k) d ≡ seen p (k at) e
   unfolding seen
   seen_onward at v =
       ap (λ (x : Verdict). seen p (onward w.writes x k) d) v
       ∙ ap (λ (x : List ℕ). ((k at).verdict, x)) (wrote_append p w.writes (k at).writes d ∙ ap (wrote p (k at).writes) (sym left))
 
-  pub seen_stopped : (f : Refusal) → w.verdict ≡ Fault f → seen p (followed w k) d ≡ (Fault f, e)
+  pub seen_stopped : (f : Refusal) → w.verdict ≡ Err f → seen p (followed w k) d ≡ (Err f, e)
   unfolding seen
-  seen_stopped f v = ap (λ (x : Verdict). seen p (onward w.writes x k) d) v ∙ ap (λ (x : List ℕ). (Fault f, x)) (sym left)
+  seen_stopped f v = ap (λ (x : Verdict). seen p (onward w.writes x k) d) v ∙ ap (λ (x : List ℕ). (Err f, x)) (sym left)
 
 -- a body's data ends within its bytes
 abbrev pub VerdictIn : List ℕ → Verdict → Type 0
-VerdictIn b (Ends at) = at ≤ length b
-VerdictIn b (Fault e) = Unit {0}
+VerdictIn b (Ok at) = at ≤ length b
+VerdictIn b (Err e) = Unit {0}
 
 -- a fault is no end
-pub fault_not_end : {C : Type 0} {e : Refusal} {at : ℕ} → Fault e ≡ Ends at → C
+pub fault_not_end : {C : Type 0} {e : Refusal} {at : ℕ} → Err e ≡ Ok at → C
 fault_not_end e = let z : ◌≡◌ {A = ℕ} 0 1 = cc in absurd (omega arith)

@@ -3,14 +3,13 @@
 use mathlib.Core.List.{List}
 use Prim.Native.Nat.{ℕ, ◌+◌, ◌≤◌}
 use lib.ListN.{length}
+use Rattle.std.specs.Prelude.{Ok, Err}
 use Rattle.words.specs.Words.{Bytes}
 use Rattle.words.specs.Writes.{Write}
 use Rattle.words.proofs.Laws.{Inside, inside_append}
 use Rattle.words.proofs.Bytewise.{Bytewise, bytewise_append}
 use Rattle.answer.specs.declared.Refusal.{Refusal}
-use Rattle.walk.specs.Walk.{Walk, ends, fault, and_then, onward}
-use Rattle.walk.specs.declared.Verdict.{Verdict}
-use Rattle.walk.specs.declared.Verdict.TheVariants.{Ends, Fault}
+use Rattle.walk.specs.Walk.{Walk, ends, fault, and_then, onward, Verdict}
 use Rattle.walk.proofs.Laws.{VerdictIn}
 
 -- of a walk over the body b on n bytes
@@ -32,8 +31,8 @@ module _ (b : List ℕ) (n : ℕ) where
   -- writes that came out so, and then a walk from where their data ended
   pub sound_onward : (ws : List Write) (v : Verdict) (k : ℕ → Walk) → Sound b n (record { writes = ws; verdict = v })
       → ((at : ℕ) → at ≤ length b → Sound b n (k at)) → Sound b n (onward ws v k)
-  sound_onward ws (Fault e) k s rest = s
-  sound_onward ws (Ends at) k s rest =
+  sound_onward ws (Err e) k s rest = s
+  sound_onward ws (Ok at) k s rest =
       let r = rest at s.ends_in in
       record {
         ends_in = r.ends_in;

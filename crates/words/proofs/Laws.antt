@@ -1,11 +1,12 @@
 -- Laws of the definitions in specs/: signed bytes, `put`, `written`, parts of a slice, `same`.
 use mathlib.Core.Path.{◌≡◌, ap, ap₂, ◌∙◌, sym, refl, subst}
 use mathlib.Core.List.{List, [], ◌∷◌, ◌++◌, append_assoc}
-use mathlib.Core.Bool.{Bool, true, false, cond}
+use mathlib.Core.Bool.{Bool, true, false, cond, ◌&&◌}
 use Prim.Native.Nat.{ℕ, suc, zero, ◌≤◌, ◌<◌, ◌+◌, ◌-◌, ◌*◌}
 use native.Mathlib.Nat.{zero-add, add-sub_cancel_left, mul-le-mul_right, mul_comm, add-zero}
 use native.Mathlib.Omega.{arith}
 use lib.Dec.{eqb}
+use lib.Pointwise.{pointwise}
 use lib.ListN.{length, drop, take, set, get_or, length-append, length-drop, length-set, take-append-drop, drop_of_length-le, replicate}
 use lib.Seq.{length-take-le, drop-drop, drop-cons, set_split, take_at, drop_at, take-append-le, take-take, sets-eq}
 use native.Mathlib.Numerals.{add-one, unary_clauses}
@@ -146,6 +147,18 @@ unfolding same
 same_refl [] = refl
 same_refl (x ∷ xs) = ap (λ (t : Bool). cond t (same xs xs) false) (eq-eqb x x refl) ∙ same_refl xs
 
+-- that is what `==` of two slices answers
+pub same_pointwise : (a b : List ℕ) → same a b ≡ pointwise eqb a b
+unfolding same
+same_pointwise [] [] = refl
+same_pointwise [] (y ∷ ys) = refl
+same_pointwise (x ∷ xs) [] = refl
+same_pointwise (x ∷ xs) (y ∷ ys) = ap (λ (t : Bool). cond (eqb x y) t false) (same_pointwise xs ys) ∙ both (eqb x y)
+  where
+    both : (t : Bool) → cond t (pointwise eqb xs ys) false ≡ (t && pointwise eqb xs ys)
+    both true = refl
+    both false = refl
+
 -- lists of other lengths are not the same
 pub same_other : (a b : List ℕ) → (length a ≡ length b → ⊥) → same a b ≡ false
 same_other a b h =
@@ -153,7 +166,7 @@ same_other a b h =
     (λ e. absurd (h (ap length (same_eq a b e))))
     (λ e. refl)
 
--- a loop that compares: at an equal byte, at another, at the end
+-- compared from index i on: at an equal byte, at another, at the end
 module _ (a b : List ℕ) (i : ℕ) (l : length a ≡ length b) where
   pub same_goes : i < length a → get_or a i 0 ≡ get_or b i 0 → same (drop i a) (drop i b) ≡ same (drop (suc i) a) (drop (suc i) b)
   unfolding same
@@ -170,26 +183,6 @@ module _ (a b : List ℕ) (i : ℕ) (l : length a ≡ length b) where
   pub same_ends : length a ≤ i → same (drop i a) (drop i b) ≡ true
   unfolding same
   same_ends h = ap₂ same (drop_of_length-le a {i = i} h) (drop_of_length-le b {i = i} (omega arith))
-
-  -- the same with whether a byte differed before, other being 0 or not: at an equal byte, at another, at the end
-  pub same_kept : (other : ℕ) → i < length a → same a b ≡ cond (eqb other 0) (same (drop i a) (drop i b)) false → get_or a i 0 ≡ get_or b i 0
-      → same a b ≡ cond (eqb other 0) (same (drop (suc i) a) (drop (suc i) b)) false
-  same_kept other h e f = e ∙ ap (λ (t : Bool). cond (eqb other 0) t false) (same_goes h f)
-
-  pub same_lost : (other : ℕ) → i < length a → same a b ≡ cond (eqb other 0) (same (drop i a) (drop i b)) false → (get_or a i 0 ≡ get_or b i 0 → ⊥)
-      → same a b ≡ false
-  same_lost other h e f = go (eqb other 0) e
-    where
-      go : (t : Bool) → same a b ≡ cond t (same (drop i a) (drop i b)) false → same a b ≡ false
-      go true e = e ∙ same_stops h f
-      go false e = e
-
-  pub same_told : (other : ℕ) → length a ≤ i → same a b ≡ cond (eqb other 0) (same (drop i a) (drop i b)) false → eqb other 0 ≡ same a b
-  same_told other h e = sym (e ∙ go (eqb other 0))
-    where
-      go : (t : Bool) → cond t (same (drop i a) (drop i b)) false ≡ t
-      go true = same_ends h
-      go false = refl
 
 -- writes that lie within the first n bytes
 

@@ -8,7 +8,7 @@ use native.Mathlib.Omega.{arith}
 use borrow.Author.Tests.{eqb-true, eqb-false}
 use lib.Dec.{eqb}
 use lib.ListN.{length, drop, take, set, get_or, drop_of_length-le, replicate, replicate-append-replicate, length-set, length-drop, length-replicate, get_or-replicate, take-append-drop}
-use lib.Seq.{take_all, take-suc-set, take-take, take-append-le, take_at, take-add, drop_at, drop-cons, drop-drop, length-take-le, set_split, get_or-set_same, get_or-set_other, ext_get_or}
+use lib.Seq.{take_all, take-take, take-append-le, take_at, take-add, drop_at, drop-cons, drop-drop, length-take-le, set_split, get_or-set_same, get_or-set_other, ext_get_or}
 use Rattle.words.specs.Writes.{put}
 use Rattle.words.proofs.Tests.{by_test}
 use Rattle.words.proofs.Laws.{length_put, put_then}
@@ -34,11 +34,6 @@ mapped_all f i s d h k = ap₂ (λ (x y : List ℕ). map f x ++ y) (take_all i s
 pub map_same : (f : ℕ → ℕ) → ((x : ℕ) → f x ≡ x) → (xs : List ℕ) → map f xs ≡ xs
 map_same f e [] = refl
 map_same f e (x ∷ xs) = ap₂ (λ (y : ℕ) (l : List ℕ). y ∷ l) (e x) (map_same f e xs)
-
--- v stored at i after as many
-
-pub fill_step : (l : List ℕ) (i v : ℕ) → i < length l → take i l ≡ replicate i v → take (i + 1) (set l i v) ≡ replicate (i + 1) v
-fill_step l i v h e = rw (← replicate-append-replicate i 1 v, add-one, take-suc-set, e)
 
 -- what s has at i stored there: byte j is s's if it is that one, or was s's before
 

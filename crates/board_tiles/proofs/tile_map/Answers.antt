@@ -5,7 +5,7 @@ use Rattle.state.proofs.Laws.{fitted_none, fitted_whole}
 use Rattle.format.proofs.Laws.{size_ok_in}
 use Rattle.board_tiles.specs.Mapping.{tile_words}
 use Rattle.board_tiles.specs.Tiles.{tiles}
-use Rattle.board_tiles.proofs.Laws.{map_size, map_previous, map_next, map_fitted, length_words}
+use Rattle.board_tiles.proofs.Laws.{map_size, map_previous, map_next, map_fitted, length_words, tiles_ceil}
 use Rattle.board_tiles.proofs.tile_map.Goals as goal
 
 pub returns-then-not-size_ok : goal.returns-then-not-size_ok
@@ -23,29 +23,22 @@ returns-then-next-area c = let a = c.args in
     map_next a.width a.height a.previous.now a.next.now a.words.now (sym c.size_ok.ensures ∙ c.if-not-size_ok.false) c.if-previous-area.false
     c.if-next-area.true
 
-pub overflow_add-count : goal.overflow_add-count
-overflow_add-count c = omega (arith, (size_ok_in c.args.width c.args.height (sym c.size_ok.ensures ∙ c.if-not-size_ok.false)).high)
-
 pub returns-then-words-count : goal.returns-then-words-count
 returns-then-words-count c =
     let a = c.args in
-    fitted_none (tile_words a.width a.height a.previous.now a.next.now) a.words.now (tiles a.height)
-    (length_words a.width a.height a.previous.now a.next.now 0 (tiles a.height)) c.if-words-count.true
+    fitted_none (tile_words a.width a.height a.previous.now a.next.now) a.words.now c.div_ceil-count.result
+    (length_words a.width a.height a.previous.now a.next.now 0 (tiles a.height) ∙ sym (c.div_ceil-count.ensures ∙ tiles_ceil a.height)) c.if-words-count.true
     ∙ map_fitted a.width a.height a.previous.now a.next.now a.words.now (sym c.size_ok.ensures ∙ c.if-not-size_ok.false) c.if-previous-area.false
     c.if-next-area.false
 
 pub store_words-requires : goal.store_words-requires
-store_words-requires c = (
-  size_ok_in c.args.width c.args.height (sym c.size_ok.ensures ∙ c.if-not-size_ok.false),
-  c.if-previous-area.false,
-  c.if-next-area.false,
-  c.if-words-count.false,
-)
+store_words-requires c = omega (arith, c.div_ceil-count.ensures, tiles_ceil c.args.height)
 
 pub returns : goal.returns
 returns c =
     let a = c.args in
-    fitted_whole (tile_words a.width a.height a.previous.now a.next.now) a.words.now (tiles a.height)
-    (length_words a.width a.height a.previous.now a.next.now 0 (tiles a.height)) _ c.if-words-count.false c.store_words.ensures
+    fitted_whole (tile_words a.width a.height a.previous.now a.next.now) a.words.now c.div_ceil-count.result
+    (length_words a.width a.height a.previous.now a.next.now 0 (tiles a.height) ∙ sym (c.div_ceil-count.ensures ∙ tiles_ceil a.height))
+    _ c.if-words-count.false c.store_words.ensures
     ∙ map_fitted a.width a.height a.previous.now a.next.now a.words.now (sym c.size_ok.ensures ∙ c.if-not-size_ok.false) c.if-previous-area.false
     c.if-next-area.false

@@ -1,7 +1,15 @@
 -- `tile_noted` meets its contract: bytes joined by or are 0 exactly if each is.
+use lib.ListN.{get_or}
 use mathlib.Core.Path.{refl}
-use Rattle.board_tiles.proofs.Noting.{eight_beside}
+use Prim.Native.Nat.{◌+◌, ◌*◌}
+use Rattle.board_tiles.specs.Tiles.{TILE, any}
+use Rattle.board_tiles.specs.Noted.{tells}
+use Rattle.board_tiles.proofs.Noting.{tells_more}
 use Rattle.board_tiles.proofs.tile_noted.Goals as goal
 
-pub returns : goal.returns
-returns c = let a = c.args in eight_beside _ _ _ _ _ _ _ _ a.marks.now a.i refl refl refl refl refl refl refl refl
+pub loop-a-init : goal.loop-a-init
+unfolding any
+loop-a-init c = refl
+
+pub loop-a-preserved : goal.loop-a-preserved
+loop-a-preserved c = tells_more (λ a. tells (get_or c.args.marks.now (TILE * c.args.i + a) 0)) c.loop-a.a _ _ c.loop-a.invariant refl

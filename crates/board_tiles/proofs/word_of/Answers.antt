@@ -6,33 +6,21 @@ use Rattle.board_tiles.proofs.Marking.{spelling_first, spelling_room, spelling_a
 use Rattle.board_tiles.proofs.word_of.Goals as goal
 
 pub loop-i-init : goal.loop-i-init
-loop-i-init c = (c.requires.1, spelling_first _ _ c.requires.0)
-
-pub overflow_sub-i : goal.overflow_sub-i
-overflow_sub-i c = omega arith
+loop-i-init c = spelling_first _ _ c.requires.0
 
 pub overflow_add-word : goal.overflow_add-word
-overflow_add-word c = let r = spelling_room _ _ _ _ c.loop-i.invariant.1 (omega arith) in omega arith
-
-pub tile_noted-requires : goal.tile_noted-requires
-tile_noted-requires c = let w = c.loop-i.invariant.1.within in omega arith
+overflow_add-word c = let r = spelling_room _ _ _ _ c.loop-i.invariant (omega arith) in omega arith
 
 pub overflow_add-word-then-tile_noted : goal.overflow_add-word-then-tile_noted
-overflow_add-word-then-tile_noted c = let r = spelling_room _ _ _ _ c.loop-i.invariant.1 (omega arith) in omega arith
-
-pub loop-i-smaller-then-tile_noted : goal.loop-i-smaller-then-tile_noted
-loop-i-smaller-then-tile_noted c = omega arith
+overflow_add-word-then-tile_noted c = let r = spelling_room _ _ _ _ c.loop-i.invariant (omega arith) in omega arith
 
 pub loop-i-preserved-then-tile_noted : goal.loop-i-preserved-then-tile_noted
 loop-i-preserved-then-tile_noted c =
-    (c.loop-i.invariant.0, spelling_again _ _ _ _ c.loop-i.invariant.1 _ (omega arith) true (sym c.tile_noted.ensures ∙ c.if-tile_noted.true) _ refl)
-
-pub loop-i-smaller : goal.loop-i-smaller
-loop-i-smaller c = omega arith
+    spelling_again _ _ _ _ c.loop-i.invariant _ (omega arith) true (sym c.tile_noted.ensures ∙ c.if-tile_noted.true) _ refl
 
 pub loop-i-preserved : goal.loop-i-preserved
 loop-i-preserved c =
-    (c.loop-i.invariant.0, spelling_again _ _ _ _ c.loop-i.invariant.1 _ (omega arith) false (sym c.tile_noted.ensures ∙ c.if-tile_noted.false) _ (omega arith))
+    spelling_again _ _ _ _ c.loop-i.invariant _ (omega arith) false (sym c.tile_noted.ensures ∙ c.if-tile_noted.false) _ (omega arith)
 
 pub returns : goal.returns
-returns c = spelling_done _ _ _ _ c.loop-i.invariant.1 (omega arith)
+returns c = spelling_done _ _ _ _ c.loop-i.invariant (omega arith)

@@ -1,13 +1,7 @@
 -- `word_of` meets its contract. The invariant: the word of the tiles from i on; a turn shifts the bit of the tile before them in.
-use lib.ListN.{length}
-use Prim.Native.Nat.{◌*◌, ◌≤◌}
-use Rattle.board_tiles.specs.Tiles.{TILE}
 use Rattle.board_tiles.specs.Noted.{noted}
 use Rattle.board_tiles.proofs.Marking.{Spelling}
 use Rattle.board_tiles.proofs.word_of.Given as goal
 
 abbrev pub invariant-loop-i : goal.invariant-loop-i
-invariant-loop-i l = (TILE * l.count ≤ length l.marks) × Spelling (noted l.marks) l.count l.word l.i
-
-abbrev pub decreases-loop-i : goal.decreases-loop-i
-decreases-loop-i l = l.i
+invariant-loop-i l = Spelling (noted l.marks) l.count l.word l.i

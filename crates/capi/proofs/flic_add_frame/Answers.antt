@@ -9,7 +9,7 @@ use Rattle.capi.proofs.flic_add_frame.Goals as goal
 pub returns : goal.returns
 returns c =
     let a = c.args in
-    held_reel c.built_for_c.ensures.0
+    held_reel _ _ _ c.built_for_c.ensures.0
     (c.add_frame-a.ensures ∙ ap
     (λ (r : Reel). add_frame r a.bytes.now (state a.shown_picture.now a.shown_palette.now) (state a.next_picture.now a.next_palette.now))
-    c.reel_from_c.ensures) c.built_for_c.ensures.1
+    c.from.ensures) c.built_for_c.ensures.1

@@ -3,4 +3,4 @@ use Rattle.capi.proofs.Laws.{held}
 use Rattle.capi.proofs.flic_check_reel.Goals as goal
 
 pub returns : goal.returns
-returns c = held c.answer_for_c.ensures c.check_reel-a.ensures
+returns c = held c.from.ensures c.check_reel-a.ensures

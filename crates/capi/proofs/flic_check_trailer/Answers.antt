@@ -5,4 +5,4 @@ use Rattle.capi.specs.Capi.{Told}
 use Rattle.capi.proofs.flic_check_trailer.Goals as goal
 
 pub returns : goal.returns
-returns c = subst (λ (s : Said). Told c.answer_for_c.result.number c.answer_for_c.result.place s) c.check_trailer-a.ensures c.answer_for_c.ensures
+returns c = subst (λ (s : Said). Told c.from.result.number c.from.result.place s) c.check_trailer-a.ensures c.from.ensures

@@ -9,7 +9,7 @@ use Rattle.capi.proofs.flic_close_reel.Goals as goal
 pub returns : goal.returns
 returns c =
     let a = c.args in
-    held_reel c.built_for_c.ensures.0
+    held_reel _ _ _ c.built_for_c.ensures.0
     (c.close_reel-a.ensures ∙ ap
     (λ (r : Reel). close_reel r a.bytes.now (state a.first_picture.now a.first_palette.now) (state a.second_picture.now a.second_palette.now))
-    c.reel_from_c.ensures) c.built_for_c.ensures.1
+    c.from.ensures) c.built_for_c.ensures.1

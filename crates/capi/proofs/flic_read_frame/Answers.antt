@@ -9,5 +9,5 @@ use Rattle.capi.proofs.flic_read_frame.Goals as goal
 pub returns : goal.returns
 returns c =
     let a = c.args in
-    held c.answer_for_c.ensures
+    held c.from.ensures
     (c.read_frame-a.ensures ∙ ap (λ (z : Size). read_frame a.bytes.now z (state a.picture.now a.palette.now)) c.size_from_c-size.ensures)

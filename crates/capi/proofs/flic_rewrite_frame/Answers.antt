@@ -9,7 +9,7 @@ use Rattle.capi.proofs.flic_rewrite_frame.Goals as goal
 pub returns : goal.returns
 returns c =
     let a = c.args in
-    held_length c.written_for_c.ensures.0
+    held_length c.from.ensures.0
     (c.rewrite_frame-a.ensures ∙ ap
     (λ (z : Size). rewrite_frame a.bytes.now z (state a.previous_picture.now a.previous_palette.now)
-    (state a.work_picture.now a.work_palette.now) a.out.now) c.size_from_c-size.ensures) c.written_for_c.ensures.1
+    (state a.work_picture.now a.work_palette.now) a.out.now) c.size_from_c-size.ensures) c.from.ensures.1

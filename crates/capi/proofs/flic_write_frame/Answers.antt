@@ -9,7 +9,7 @@ use Rattle.capi.proofs.flic_write_frame.Goals as goal
 pub returns : goal.returns
 returns c =
     let a = c.args in
-    held_length c.written_for_c.ensures.0
+    held_length c.from.ensures.0
     (c.write_frame-a.ensures ∙ ap
     (λ (z : Size). write_frame z (state a.previous_picture.now a.previous_palette.now) (state a.next_picture.now a.next_palette.now) a.out.now)
-    c.size_from_c-size.ensures) c.written_for_c.ensures.1
+    c.size_from_c-size.ensures) c.from.ensures.1

@@ -3,4 +3,4 @@ use Rattle.capi.proofs.Laws.{held_length}
 use Rattle.capi.proofs.flic_write_trailer.Goals as goal
 
 pub returns : goal.returns
-returns c = held_length c.written_for_c.ensures.0 c.write_trailer-a.ensures c.written_for_c.ensures.1
+returns c = held_length c.from.ensures.0 c.write_trailer-a.ensures c.from.ensures.1

@@ -1,19 +1,22 @@
--- `frame_at` meets its contract: frame k from the start is the frame that is left to reach from here.
-use mathlib.Core.Path.{◌∙◌, sym}
+-- `frame_at` meets its contract: the frame behind the k - 1 before it.
+use mathlib.Core.Path.{◌≡◌, ◌∙◌, sym, ap}
+use Prim.Native.Nat.{ℕ, suc, ◌-◌}
 use native.Mathlib.Omega.{arith}
-use Rattle.chunks.proofs.Spans.{frame_at_one, frame_at_fault, frame_at_more}
+use Rattle.answer.proofs.Laws.{handed_on}
+use Rattle.chunks.specs.Spans.{frame_at}
+use Rattle.chunks.proofs.Spans.{frame_at_walked, next_after}
 use Rattle.chunks.proofs.frame_at.Goals as goal
 
-pub returns-in-Fault : goal.returns-in-Fault
-returns-in-Fault c = sym
-    (c.loop-left.invariant.1 ∙ frame_at_fault c.args.b.now c.loop-left.left c.loop-left.at c.loop-left-test.true _ _ (sym c.next_at.ensures ∙ c.in-Fault.is))
-
-pub loop-left-preserved : goal.loop-left-preserved
-loop-left-preserved c = (
-  omega arith,
-  c.loop-left.invariant.1 ∙ frame_at_more c.args.b.now c.loop-left.left c.loop-left.at c.loop-left-test.true _ _
-      (sym c.next_at.ensures ∙ c.in-Frame.is),
-)
+pub returns-in_err-at : goal.returns-in_err-at
+returns-in_err-at c =
+    let k : c.args.k ≡ suc (c.args.k - 1) = omega arith in
+    handed_on c.from_residual.ensures.1
+    ∙ sym (ap (λ (n : ℕ). frame_at c.args.b.now n 128) k ∙ frame_at_walked c.args.b.now (c.args.k - 1) 128
+    ∙ ap (next_after c.args.b.now) (sym c.walk_frames.ensures ∙ c.in_err-at.was))
 
 pub returns : goal.returns
-returns c = c.next_at-2.ensures ∙ sym (c.loop-left.invariant.1 ∙ frame_at_one c.args.b.now c.loop-left.left c.loop-left.at (omega arith))
+returns c =
+    let k : c.args.k ≡ suc (c.args.k - 1) = omega arith in
+    c.next_at.ensures
+    ∙ sym (ap (λ (n : ℕ). frame_at c.args.b.now n 128) k ∙ frame_at_walked c.args.b.now (c.args.k - 1) 128
+    ∙ ap (next_after c.args.b.now) (sym c.walk_frames.ensures ∙ c.in_ok-at.was))

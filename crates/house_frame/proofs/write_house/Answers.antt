@@ -1,5 +1,6 @@
 -- `write_house` meets its contract: where the rows have more edges than the delta has bytes it is shorter than the full chunk (`full_edges`), and no
 -- row is searched; where not, they are.
+use mathlib.Core.Path.{◌∙◌}
 use Rattle.house_frame.proofs.Laws.{delta_taken, delta_sought}
 use Rattle.house_frame.proofs.write_house.Goals as goal
 
@@ -12,11 +13,11 @@ measure_delta-delta-requires c = (c.requires.0.picture, c.requires.1.picture)
 pub write_searched-requires : goal.write_searched-requires
 write_searched-requires c =
     let a = c.args in
-    let s = delta_sought a.size a.previous_picture.now a.next_picture.now c.measure_delta-delta.ensures c.if-delta.true in
-    (c.requires.0, c.requires.1, c.measure_colours-colours.ensures, s.0, s.1)
+    let s = delta_sought a.size a.previous.picture.now a.next.picture.now c.measure_delta-delta.ensures c.if-delta.true in
+    (c.requires.0, c.requires.1, c.measure_colours-colours.ensures, s.0, c.size_of.ensures ∙ s.1)
 
 pub write_planned-requires : goal.write_planned-requires
 write_planned-requires c =
     let a = c.args in
-    let s = delta_taken a.size a.previous_picture.now a.next_picture.now c.measure_delta-delta.ensures c.if-delta.false in
+    let s = delta_taken a.size a.previous.picture.now a.next.picture.now c.measure_delta-delta.ensures c.if-delta.false in
     (c.requires.0, c.requires.1, c.measure_colours-colours.ensures, s.0, λ k. absurd (s.1 k))

@@ -6,6 +6,7 @@ use Prim.Native.Nat.{ℕ, ◌-◌, ◌≤◌}
 use native.Mathlib.Omega.{arith}
 use lib.Seq.{take_at, length-take-le}
 use lib.ListN.{length, take, drop, replicate, length-append, length-replicate}
+use Rattle.std.specs.Prelude.{Some}
 use Rattle.format.specs.Limits.{max_area}
 use Rattle.house_full.proofs.Laws.{sized_small, brun_planned}
 use Rattle.house_frame.proofs.Laws.{shorter_brun, shorter_picture}
@@ -23,15 +24,15 @@ slice_bounds-rows-end c = omega (arith, room_long c.picture_room-rows.result c.p
 
 pub measure_picture-picture-requires : goal.measure_picture-picture-requires
 measure_picture-picture-requires c =
-    let long = rows c.picture_room-rows.result (length c.args.next_picture.now) c.picture_room-rows.ensures (omega (arith, sized_small c.requires.1.picture)) in
+    let long = rows c.picture_room-rows.result (length c.args.next.picture.now) c.picture_room-rows.ensures (omega (arith, sized_small c.requires.1.picture)) in
     (c.requires.1.picture, long)
 
 pub slice_bounds-write_planned-end : goal.slice_bounds-write_planned-end
 slice_bounds-write_planned-end c =
-    let long = rows c.picture_room-rows.result (length c.args.next_picture.now) c.picture_room-rows.ensures (omega (arith, sized_small c.requires.1.picture)) in
+    let long = rows c.picture_room-rows.result (length c.args.next.picture.now) c.picture_room-rows.ensures (omega (arith, sized_small c.requires.1.picture)) in
     omega (
       arith,
-      length-append c.measure_picture-picture.new.rows (drop (length c.args.next_picture.now - 0) c.picture_room-rows.result),
+      length-append c.measure_picture-picture.new.rows (drop (length c.args.next.picture.now - 0) c.picture_room-rows.result),
       c.measure_picture-picture.auto.rows,
       long,
       room_long c.picture_room-rows.result c.picture_room-rows.ensures,
@@ -41,15 +42,15 @@ pub write_planned-requires : goal.write_planned-requires
 write_planned-requires c =
     let a = c.args in
     let p = c.requires in
-    let long = rows c.picture_room-rows.result (length a.next_picture.now) c.picture_room-rows.ensures (omega (arith, sized_small p.1.picture)) in
+    let long = rows c.picture_room-rows.result (length a.next.picture.now) c.picture_room-rows.ensures (omega (arith, sized_small p.1.picture)) in
     let m = c.measure_picture-picture in (
       p.0,
       p.1,
       p.2,
-      m.ensures.0 ∙ shorter_picture a.size a.previous_picture.now a.next_picture.now p.3 a.delta p.4,
+      ap Some m.ensures.0 ∙ shorter_picture a.size a.previous.picture.now a.next.picture.now p.3 a.delta p.4,
       λ k.
-          take_at m.new.rows (drop (length a.next_picture.now - 0) c.picture_room-rows.result) (length a.next_picture.now - 0)
+          take_at m.new.rows (drop (length a.next.picture.now - 0) c.picture_room-rows.result) (length a.next.picture.now - 0)
           (m.auto.rows ∙ long ∙ omega arith)
           ∙ m.ensures.1
-          ∙ brun_planned a.size.width a.size.height a.next_picture.now _ (shorter_brun a.size a.next_picture.now a.delta m.ensures.0 k),
+          ∙ brun_planned a.size.width a.size.height a.next.picture.now _ (shorter_brun a.size a.next.picture.now a.delta m.ensures.0 k),
     )

@@ -1,16 +1,14 @@
--- `all_zero` meets its contract. The invariant: the picture is all 0 exactly if it is from pixel i on.
-use mathlib.Core.Path.{◌∙◌, sym}
-use Rattle.house_full.proofs.Laws.{zero_first, zero_goes, zero_stops, zero_ends}
+-- `all_zero` meets its contract: the closure tests one pixel, and `all` does so for each.
+use mathlib.Core.Path.{◌∙◌}
+use borrow.Author.Tests.{tests}
+use lib.Dec.{eqb}
+use Rattle.std.proofs.Common.{rules}
+use Rattle.std.proofs.lemmas.Iterator.{YieldsList-from_slice}
+use Rattle.std.proofs.lemmas.Iterator.Search.{all_from_yields_List}
+use Rattle.house_full.proofs.Laws.{zero_each}
 use Rattle.house_full.proofs.all_zero.Goals as goal
 
-pub loop-i-init : goal.loop-i-init
-loop-i-init c = zero_first c.args.picture.now
-
-pub returns-then-picture-i-ne0 : goal.returns-then-picture-i-ne0
-returns-then-picture-i-ne0 c = sym (c.loop-i.invariant ∙ zero_stops c.args.picture.now c.loop-i.i c.loop-i-test.true c.if-picture-i-ne0.true)
-
-pub loop-i-preserved : goal.loop-i-preserved
-loop-i-preserved c = c.loop-i.invariant ∙ zero_goes c.args.picture.now c.loop-i.i c.loop-i-test.true c.if-picture-i-ne0.false
-
 pub returns : goal.returns
-returns c = sym (c.loop-i.invariant ∙ zero_ends c.args.picture.now c.loop-i.i c.loop-i-test.false)
+returns c =
+    all_from_yields_List (λ x. eqb x 0) _ _ _ c.all.ensures.ran (YieldsList-from_slice c.args.picture.now cc) (λ x b q k. search (rules, tests))
+    ∙ zero_each c.args.picture.now

@@ -1,9 +1,7 @@
 -- `write_brun` meets its contract. The invariant: the rows left, put at here, give what the contract says, and what is left of the plan is theirs.
+use Prim.Native.Nat.{◌-◌}
 use Rattle.house_full.proofs.Laws.{Filling}
 use Rattle.house_full.proofs.write_brun.Given as goal
 
-abbrev pub invariant-loop-left : goal.invariant-loop-left
-invariant-loop-left l = Filling l.width l.height l.picture l.plan l.initial.out l.at l.out l.here l.from l.left
-
-abbrev pub decreases-loop-left : goal.decreases-loop-left
-decreases-loop-left l = l.left
+abbrev pub invariant-loop : goal.invariant-loop
+invariant-loop l = Filling l.width l.height l.picture l.plan l.initial.out l.at l.out l.here l.from (l.height - l.counter)

@@ -9,14 +9,11 @@ write_row-written-requires c = (c.requires.0, c.requires.1, omega (arith, length
 pub bounds-out-at : goal.bounds-out-at
 bounds-out-at c = omega (arith, length_row c.args.row.now)
 
-pub overflow_add-result : goal.overflow_add-result
-overflow_add-result c = omega (arith, length_row c.args.row.now, c.write_row-written.ensures.1)
-
 pub returns : goal.returns
 returns c =
     let a = c.args in
     let l = length_row a.row.now in (
       omega (arith, c.write_row-written.ensures.1),
-      put_row a.out.now a.row.now c.write_row-written.new.out a.at c.write_row-written.result.packets c.count_byte.result
-          c.write_row-written.ensures.0 c.write_row-written.ensures.2 (omega arith) c.count_byte.ensures,
+      put_row a.out.now a.row.now c.write_row-written.new.out a.at c.write_row-written.result.packets _
+          c.write_row-written.ensures.0 c.write_row-written.ensures.2 (omega arith) (omega (arith, c.min.ensures)),
     )

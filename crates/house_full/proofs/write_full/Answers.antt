@@ -14,13 +14,13 @@ use Rattle.house_full.proofs.write_full.Goals as goal
 pub put_header-requires : goal.put_header-requires
 put_header-requires c =
     let a = c.args in
-    let t = kind_black a.width a.height a.picture.now c.requires.1 c.if-kind-eq-FLI_BLACK.true in
+    let t = kind_black a.width a.height a.picture.now c.requires.1 c.in-13.is in
     (omega (arith, taken_size t), omega arith)
 
-pub returns-then-kind-eq-FLI_BLACK : goal.returns-then-kind-eq-FLI_BLACK
-returns-then-kind-eq-FLI_BLACK c =
+pub returns-in-13 : goal.returns-in-13
+returns-in-13 c =
     let a = c.args in
-    let t = kind_black a.width a.height a.picture.now c.requires.1 c.if-kind-eq-FLI_BLACK.true in
+    let t = kind_black a.width a.height a.picture.now c.requires.1 c.in-13.is in
     put_header_first a.out.now c.put_header.new.out c.put_header.new.out a.at 6 FLI_BLACK [] refl (omega (arith, taken_size t)) c.put_header.ensures
     (sym (put_nil c.put_header.new.out (a.at + 6)))
     ∙ ap (put a.out.now a.at) (sym t.whole)
@@ -28,46 +28,40 @@ returns-then-kind-eq-FLI_BLACK c =
 pub write_brun-size-requires : goal.write_brun-size-requires
 write_brun-size-requires c =
     let a = c.args in
-    let t = kind_brun a.width a.height a.picture.now c.requires.1 c.if-kind-eq-FLI_BRUN.true in
-    (c.requires.0, c.requires.2 c.if-kind-eq-FLI_BRUN.true, omega (arith, taken_size t))
+    let t = kind_brun a.width a.height a.picture.now c.requires.1 c.in-15.is in
+    (c.requires.0, c.requires.2 c.in-15.is, omega (arith, taken_size t))
 
-pub overflow_add-size : goal.overflow_add-size
-overflow_add-size c =
+pub put_header-requires-in-15 : goal.put_header-requires-in-15
+put_header-requires-in-15 c =
     let a = c.args in
-    let t = kind_brun a.width a.height a.picture.now c.requires.1 c.if-kind-eq-FLI_BRUN.true in
-    omega (arith, taken_size t, c.write_brun-size.ensures.0)
-
-pub put_header-requires-then-kind-eq-FLI_BRUN : goal.put_header-requires-then-kind-eq-FLI_BRUN
-put_header-requires-then-kind-eq-FLI_BRUN c =
-    let a = c.args in
-    let t = kind_brun a.width a.height a.picture.now c.requires.1 c.if-kind-eq-FLI_BRUN.true in
+    let t = kind_brun a.width a.height a.picture.now c.requires.1 c.in-15.is in
     (omega (arith, taken_size t), omega arith)
 
-pub returns-then-kind-eq-FLI_BRUN : goal.returns-then-kind-eq-FLI_BRUN
-returns-then-kind-eq-FLI_BRUN c =
+pub returns-in-15 : goal.returns-in-15
+returns-in-15 c =
     let a = c.args in
-    let t = kind_brun a.width a.height a.picture.now c.requires.1 c.if-kind-eq-FLI_BRUN.true in
-    put_header_last a.out.now c.write_brun-size.new.out c.put_header-then-kind-eq-FLI_BRUN.new.out a.at (6 + c.write_brun-size.result) FLI_BRUN
+    let t = kind_brun a.width a.height a.picture.now c.requires.1 c.in-15.is in
+    put_header_last a.out.now c.write_brun-size.new.out c.put_header-in-15.new.out a.at (6 + c.write_brun-size.result) FLI_BRUN
     (brun_body a.width a.height a.picture.now)
-    (ap (λ (n : ℕ). 6 + n) c.write_brun-size.ensures.0) (omega (arith, taken_size t)) c.write_brun-size.ensures.1 c.put_header-then-kind-eq-FLI_BRUN.ensures
+    (ap (λ (n : ℕ). 6 + n) c.write_brun-size.ensures.0) (omega (arith, taken_size t)) c.write_brun-size.ensures.1 c.put_header-in-15.ensures
     ∙ ap (put a.out.now a.at) (sym t.whole)
 
-pub put_header-requires-2 : goal.put_header-requires-2
-put_header-requires-2 c =
+pub put_header-requires-in_default : goal.put_header-requires-in_default
+put_header-requires-in_default c =
     let a = c.args in
-    let t = kind_copy a.width a.height a.picture.now c.requires.1 c.if-kind-eq-FLI_BLACK.false c.if-kind-eq-FLI_BRUN.false in
+    let t = kind_copy a.width a.height a.picture.now c.requires.1 (λ e. absurd (omega arith)) (λ e. absurd (omega arith)) in
     (omega (arith, taken_size t), omega arith)
 
 pub put_bytes-requires : goal.put_bytes-requires
 put_bytes-requires c =
     let a = c.args in
-    let t = kind_copy a.width a.height a.picture.now c.requires.1 c.if-kind-eq-FLI_BLACK.false c.if-kind-eq-FLI_BRUN.false in
+    let t = kind_copy a.width a.height a.picture.now c.requires.1 (λ e. absurd (omega arith)) (λ e. absurd (omega arith)) in
     omega (arith, taken_size t)
 
-pub returns : goal.returns
-returns c =
+pub returns-in_default : goal.returns-in_default
+returns-in_default c =
     let a = c.args in
-    let t = kind_copy a.width a.height a.picture.now c.requires.1 c.if-kind-eq-FLI_BLACK.false c.if-kind-eq-FLI_BRUN.false in
-    put_header_first a.out.now c.put_header-2.new.out c.put_bytes.new.out a.at (6 + length a.picture.now) FLI_COPY a.picture.now
-    refl (omega (arith, taken_size t)) c.put_header-2.ensures c.put_bytes.ensures
+    let t = kind_copy a.width a.height a.picture.now c.requires.1 (λ e. absurd (omega arith)) (λ e. absurd (omega arith)) in
+    put_header_first a.out.now c.put_header-in_default.new.out c.put_bytes.new.out a.at (6 + length a.picture.now) FLI_COPY a.picture.now
+    refl (omega (arith, taken_size t)) c.put_header-in_default.ensures c.put_bytes.ensures
     ∙ ap (put a.out.now a.at) (sym t.whole)

@@ -1,20 +1,11 @@
 -- Invariant: no row from row r on is changed.
 use Rattle.house_lc.proofs.RowLaws.{still_first, still_on, still_stops, still_ends}
-use Rattle.house_cells.proofs.EachLaws.{cell_inside}
-use lib.ListN.{length}
 use native.Mathlib.Omega.{arith}
-use Prim.Native.Nat.{◌-◌, ◌<◌}
+use Prim.Native.Nat.{◌-◌}
 use Rattle.house_lc.proofs.up_to_last.Goals as goal
 
 pub loop-r-init : goal.loop-r-init
 loop-r-init c = let a = c.args in still_first a.width a.height a.previous.now a.next.now
-
-pub row_stays-requires : goal.row_stays-requires
-row_stays-requires c =
-    let a = c.args in
-    let r = c.loop-r.r in
-    let here : r - 1 < a.height = omega (arith, c.loop-r.invariant.high, c.loop-r-test.true) in
-    (cell_inside a.width (r - 1) a.height (length a.previous.now) here c.requires.0, cell_inside a.width (r - 1) a.height (length a.next.now) here c.requires.1)
 
 pub returns-then-not-row_stays : goal.returns-then-not-row_stays
 returns-then-not-row_stays c =
@@ -31,7 +22,4 @@ loop-r-preserved c =
     c.row_stays.ensures c.if-not-row_stays.false
 
 pub returns : goal.returns
-returns c =
-    let a = c.args in
-    let l = c.loop-r in
-    still_ends a.width a.height a.previous.now a.next.now l.r l.invariant (omega (arith, c.loop-r-test.false))
+returns c = let a = c.args in still_ends a.width a.height a.previous.now a.next.now c.loop-r.r c.loop-r.invariant (omega arith)

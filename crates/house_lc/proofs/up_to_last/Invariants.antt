@@ -4,6 +4,3 @@ use Rattle.house_lc.proofs.up_to_last.Given as goal
 
 abbrev pub invariant-loop-r : goal.invariant-loop-r
 invariant-loop-r l = Still l.width l.height l.previous l.next l.r
-
-abbrev pub decreases-loop-r : goal.decreases-loop-r
-decreases-loop-r l = l.r

@@ -39,4 +39,4 @@ returns c =
     let a = c.args in
     let r = c.changed_rows-rows in
     body_stored a.width a.height a.previous.now a.next.now r.result.first r.result.count r.ensures.0 r.ensures.1 a.out.now c.put_u16.new.out
-    c.put_u16-2.new.out c.put_lines.new.out a.at c.requires.5 c.put_u16.ensures c.put_u16-2.ensures c.put_lines.ensures
+    c.put_u16-2.new.out c.put_lines.new.out a.at c.requires.5 c.put_u16.ensures c.put_u16-2.ensures c.put_lines.ensures.1

@@ -1,11 +1,7 @@
 -- Invariant: the first j units are equal to unit v, and the count goes on from unit x + j.
 use Rattle.house_packets.proofs.UnitLaws.{Equal}
 use Rattle.house_packets.specs.Units.{unit_at}
-use Prim.Native.Nat.{◌-◌}
 use Rattle.house_packets.proofs.equals_of.Given as goal
 
 abbrev pub invariant-loop-j : goal.invariant-loop-j
-invariant-loop-j l = Equal (unit_at l.unit l.b l.v) l.unit l.b l.x l.m l.j
-
-abbrev pub decreases-loop-j : goal.decreases-loop-j
-decreases-loop-j l = l.m - l.j
+invariant-loop-j l = Equal (unit_at l.form.unit l.b l.v) l.form.unit l.b l.x l.m l.j

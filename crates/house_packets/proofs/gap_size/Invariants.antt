@@ -3,7 +3,7 @@ use Rattle.house_packets.proofs.GapLaws.{Sizing}
 use Rattle.house_packets.proofs.gap_size.Given as goal
 
 abbrev pub invariant-loop-left : goal.invariant-loop-left
-invariant-loop-left l = Sizing l.unit l.least l.longest l.b l.x l.m l.g l.i l.left l.size
+invariant-loop-left l = Sizing l.form.unit l.form.least l.form.longest l.b l.x l.m l.g l.i l.left l.size
 
 abbrev pub decreases-loop-left : goal.decreases-loop-left
 decreases-loop-left l = l.left

@@ -7,8 +7,8 @@ use Rattle.house_packets.proofs.put_row.Given as goal
 
 abbrev pub invariant-loop-s : goal.invariant-loop-s
 invariant-loop-s l =
-    (l.i ≤ l.n) × (l.count ≤ 2 * l.i) × Measured l.unit l.n l.a l.b (stretch_packets l.unit l.least l.longest) l.i l.count
-    × Written l.unit l.n l.a l.b (stretch_bytes l.unit l.least l.longest) l.initial.out l.at l.out l.here l.i
+    (l.i ≤ l.n) × (l.count ≤ 2 * l.i) × Measured l.form.unit l.n l.a l.b (stretch_packets l.form.unit l.form.least l.form.longest) l.i l.count
+    × Written l.form.unit l.n l.a l.b (stretch_bytes l.form.unit l.form.least l.form.longest) l.initial.out l.at l.out l.here l.i
 
 abbrev pub decreases-loop-s : goal.decreases-loop-s
 decreases-loop-s l = l.n - l.i

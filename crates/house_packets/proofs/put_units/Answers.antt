@@ -9,17 +9,13 @@ use Rattle.house_packets.proofs.put_units.Goals as goal
 pub loop-left-init : goal.loop-left-init
 loop-left-init c =
     let a = c.args in
-    storing_first a.unit a.least a.b.now a.x a.m a.k a.out.now a.at c.requires.5 c.requires.7
+    storing_first a.form.unit a.form.least a.b.now a.x a.m a.k a.out.now a.at c.requires.1 c.requires.3
 
 pub packet_at-p-requires : goal.packet_at-p-requires
 packet_at-p-requires c =
     let a = c.args in (
-      c.requires.0,
-      c.requires.1,
-      c.requires.2,
-      c.requires.3,
       omega (arith, c.loop-left-test.true),
-      cells_inside a.unit _ (a.x + a.m) (length a.b.now) (omega (arith, c.loop-left.invariant.place)) c.requires.4,
+      cells_inside a.form.unit _ (a.x + a.m) (length a.b.now) (omega (arith, c.loop-left.invariant.place)) c.requires.0,
     )
 
 pub put_packet-here-requires : goal.put_packet-here-requires
@@ -27,7 +23,7 @@ put_packet-here-requires c =
     let a = c.args in
     let l = c.loop-left in
     let p = c.packet_at-p in (
-      storing_room a.unit a.least a.b.now a.x a.m a.k a.out.now a.at l.out l.here l.skip l.i l.left l.count l.invariant p.result.units p.result.code
+      storing_room a.form.unit a.form.least a.b.now a.x a.m a.k a.out.now a.at l.out l.here l.skip l.i l.left l.count l.invariant p.result.units p.result.code
           p.result.len p.ensures,
       l.invariant.small,
       p.ensures.byte,
@@ -35,14 +31,14 @@ put_packet-here-requires c =
 
 pub overflow_add-i : goal.overflow_add-i
 overflow_add-i c = let a = c.args in omega
-    (arith, c.loop-left.invariant.place, c.packet_at-p.ensures.inside, cells_few a.unit (a.x + a.m) (length a.b.now) c.requires.0 c.requires.4)
+    (arith, c.loop-left.invariant.place, c.packet_at-p.ensures.inside, cells_few a.form.unit (a.x + a.m) (length a.b.now) a.form.fits.some_unit c.requires.0)
 
 pub loop-left-preserved : goal.loop-left-preserved
 loop-left-preserved c =
     let a = c.args in
     let l = c.loop-left in
     let p = c.packet_at-p in
-    storing_on a.unit a.least a.b.now a.x a.m a.k a.out.now a.at l.out l.here l.skip l.i l.left l.count l.invariant p.result.units p.result.code
+    storing_on a.form.unit a.form.least a.b.now a.x a.m a.k a.out.now a.at l.out l.here l.skip l.i l.left l.count l.invariant p.result.units p.result.code
     p.result.len p.ensures
     c.put_packet-here.new.out c.put_packet-here.result c.put_packet-here.ensures
 
@@ -53,4 +49,5 @@ pub returns : goal.returns
 returns c =
     let a = c.args in
     let l = c.loop-left in
-    storing_ends a.unit a.least a.b.now a.x a.m a.k a.out.now a.at l.out l.here l.skip l.i l.left l.count l.invariant (omega (arith, c.loop-left-test.false))
+    storing_ends a.form.unit a.form.least a.b.now a.x a.m a.k a.out.now a.at l.out l.here l.skip l.i l.left l.count l.invariant
+    (omega (arith, c.loop-left-test.false))

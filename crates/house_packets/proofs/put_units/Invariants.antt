@@ -3,7 +3,7 @@ use Rattle.house_packets.proofs.GapLaws.{Storing}
 use Rattle.house_packets.proofs.put_units.Given as goal
 
 abbrev pub invariant-loop-left : goal.invariant-loop-left
-invariant-loop-left l = Storing l.unit l.least l.b l.x l.m l.k l.initial.out l.at l.out l.here l.skip l.i l.left l.count
+invariant-loop-left l = Storing l.form.unit l.form.least l.b l.x l.m l.k l.initial.out l.at l.out l.here l.skip l.i l.left l.count
 
 abbrev pub decreases-loop-left : goal.decreases-loop-left
 decreases-loop-left l = l.left

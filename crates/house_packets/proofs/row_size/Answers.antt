@@ -6,7 +6,6 @@ use Rattle.house_cells.proofs.StretchLaws.{measured_first, measured_on, measured
 use Rattle.format.specs.Limits.{max_width}
 use lib.ListN.{length}
 use native.Mathlib.Omega.{arith}
-use Prim.Native.Nat.{◌≤◌}
 use mathlib.Core.Path.{sym, ap, ◌∙◌}
 use mathlib.Core.List.{List}
 use Rattle.house_packets.proofs.row_size.Goals as goal
@@ -14,46 +13,32 @@ use Rattle.house_packets.proofs.row_size.Goals as goal
 pub loop-s-init : goal.loop-s-init
 loop-s-init c =
     let a = c.args in
-    (omega arith, omega arith, measured_first a.unit a.n a.a.now a.b.now (stretch_bytes a.unit a.least a.longest))
+    (omega arith, omega arith, measured_first a.form.unit a.n a.a.now a.b.now (stretch_bytes a.form.unit a.form.least a.form.longest))
 
-pub next_stretch-s-requires : goal.next_stretch-s-requires
-next_stretch-s-requires c = omega (arith, c.requires.2, c.requires.3, c.loop-s.invariant.0)
-
-pub returns-then-s-eq0 : goal.returns-then-s-eq0
-returns-then-s-eq0 c =
+pub overflow_mul-form : goal.overflow_mul-form
+overflow_mul-form c =
     let a = c.args in
-    let l = c.loop-s in
-    let s = c.next_stretch-s in (
-      measured_all a.unit a.n a.a.now a.b.now (stretch_bytes a.unit a.least a.longest) l.i s.result.gap s.result.changed l.size s.ensures
-          l.invariant.2 c.if-s-eq0.true
-          ∙ ap length (sym (row_bytes a.unit a.least a.longest a.n a.a.now a.b.now)),
-      omega arith,
-    )
-
-pub overflow_mul-unit : goal.overflow_mul-unit
-overflow_mul-unit c =
-    let a = c.args in
-    let s = c.next_stretch-s in
+    let s = c.in-Some.s in
     omega (
       arith,
-      (stretch_fits a.unit a.least a.longest c.requires.0 a.n c.loop-s.i s.result.gap s.result.changed max_width (length a.b.now)
-          s.ensures.inside c.requires.1 c.requires.3).gap_wide,
+      (stretch_fits a.form.unit a.form.least a.form.longest a.form.fits a.n c.loop-s.i s.gap s.changed max_width (length a.b.now)
+          c.in-Some.ensures.1.inside c.requires.0 c.requires.2).gap_wide,
     )
 
 pub gap_size-size-requires : goal.gap_size-size-requires
 gap_size-size-requires c =
     let a = c.args in
-    let s = c.next_stretch-s in
-    let f = stretch_fits a.unit a.least a.longest c.requires.0 a.n c.loop-s.i s.result.gap s.result.changed max_width (length a.b.now)
-    s.ensures.inside c.requires.1 c.requires.3 in
-    (c.requires.0, f.row, omega (arith, f.gap_few, f.gap_wide), f.changed_wide)
+    let s = c.in-Some.s in
+    let f = stretch_fits a.form.unit a.form.least a.form.longest a.form.fits a.n c.loop-s.i s.gap s.changed max_width (length a.b.now)
+    c.in-Some.ensures.1.inside c.requires.0 c.requires.2 in
+    (f.row, omega (arith, f.gap_few, f.gap_wide), f.changed_wide)
 
 pub overflow_add-size : goal.overflow_add-size
 overflow_add-size c =
     let a = c.args in
-    let s = c.next_stretch-s in
-    let f = stretch_fits a.unit a.least a.longest c.requires.0 a.n c.loop-s.i s.result.gap s.result.changed max_width (length a.b.now)
-    s.ensures.inside c.requires.1 c.requires.3 in
+    let s = c.in-Some.s in
+    let f = stretch_fits a.form.unit a.form.least a.form.longest a.form.fits a.n c.loop-s.i s.gap s.changed max_width (length a.b.now)
+    c.in-Some.ensures.1.inside c.requires.0 c.requires.2 in
     omega (
       arith,
       c.gap_size-size.ensures.1,
@@ -61,25 +46,30 @@ overflow_add-size c =
       f.changed_wide,
       c.loop-s.invariant.1,
       c.loop-s.invariant.0,
-      cells_few a.unit a.n max_width c.requires.0.some_unit c.requires.1,
+      cells_few a.form.unit a.n max_width a.form.fits.some_unit c.requires.0,
     )
-
-pub loop-s-smaller : goal.loop-s-smaller
-loop-s-smaller c = omega (arith, c.next_stretch-s.ensures.inside, c.if-s-eq0.false)
 
 pub loop-s-preserved : goal.loop-s-preserved
 loop-s-preserved c =
     let a = c.args in
     let l = c.loop-s in
-    let s = c.next_stretch-s in
-    let g = s.result.gap in
-    let m = s.result.changed in
-    let some : 1 ≤ m = omega (arith, c.if-s-eq0.false) in
+    let s = c.in-Some.s in
+    let e = c.in-Some.ensures in
     let p = c.gap_size-size in
-    let f = stretch_fits a.unit a.least a.longest c.requires.0 a.n l.i g m max_width (length a.b.now) s.ensures.inside c.requires.1 c.requires.3 in
-    let e = stretch_gap a.unit a.least a.longest a.a.now a.b.now l.i g m in (
-      s.ensures.inside,
-      omega (arith, p.ensures.1, f.gap),
-      measured_on a.unit a.n a.a.now a.b.now (stretch_bytes a.unit a.least a.longest) l.i g m l.size s.ensures l.invariant.2 p.result some
-          (p.ensures.0 ∙ ap (λ (ps : List Packet). length (bytes ps)) e),
+    let f = stretch_fits a.form.unit a.form.least a.form.longest a.form.fits a.n l.i s.gap s.changed max_width (length a.b.now) e.1.inside c.requires.0
+    c.requires.2 in
+    let is = stretch_gap a.form.unit a.form.least a.form.longest a.a.now a.b.now l.i s.gap s.changed in (
+      omega (arith, e.1.inside),
+      omega (arith, l.invariant.1, p.ensures.1, f.gap),
+      measured_on a.form.unit a.n a.a.now a.b.now (stretch_bytes a.form.unit a.form.least a.form.longest) l.i l.size l.invariant.2 s.gap s.changed e
+          p.result (p.ensures.0 ∙ ap (λ (ps : List Packet). length (bytes ps)) is),
+    )
+
+pub returns : goal.returns
+returns c =
+    let a = c.args in
+    let l = c.loop-s in (
+      measured_all a.form.unit a.n a.a.now a.b.now (stretch_bytes a.form.unit a.form.least a.form.longest) l.i l.size l.invariant.2 c.in_default.ensures
+          ∙ ap length (sym (row_bytes a.form.unit a.form.least a.form.longest a.n a.a.now a.b.now)),
+      omega (arith, l.invariant.0, l.invariant.1),
     )

@@ -5,7 +5,7 @@ use Prim.Native.Nat.{◌-◌, ◌≤◌, ◌*◌}
 use Rattle.house_packets.proofs.row_size.Given as goal
 
 abbrev pub invariant-loop-s : goal.invariant-loop-s
-invariant-loop-s l = (l.i ≤ l.n) × (l.size ≤ 4 * l.i) × Measured l.unit l.n l.a l.b (stretch_bytes l.unit l.least l.longest) l.i l.size
+invariant-loop-s l = (l.i ≤ l.n) × (l.size ≤ 4 * l.i) × Measured l.form.unit l.n l.a l.b (stretch_bytes l.form.unit l.form.least l.form.longest) l.i l.size
 
 abbrev pub decreases-loop-s : goal.decreases-loop-s
 decreases-loop-s l = l.n - l.i

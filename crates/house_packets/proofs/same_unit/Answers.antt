@@ -6,14 +6,17 @@ use Rattle.house_packets.proofs.same_unit.Goals as goal
 pub returns-then-b-i : goal.returns-then-b-i
 returns-then-b-i c =
     let a = c.args in
-    unit_other a.b.now (a.x * a.unit) (a.y * a.unit) a.unit c.requires.0 c.requires.1 c.requires.2 c.requires.3 c.if-b-i.true
+    let f = a.form in
+    unit_other a.b.now (a.x * f.unit) (a.y * f.unit) f.unit f.fits.some_unit f.fits.small_unit c.requires.0 c.requires.1 c.if-b-i.true
 
-pub returns-then-unit-eq1 : goal.returns-then-unit-eq1
-returns-then-unit-eq1 c =
+pub returns-then-form-eq1 : goal.returns-then-form-eq1
+returns-then-form-eq1 c =
     let a = c.args in
-    unit_one a.b.now (a.x * a.unit) (a.y * a.unit) a.unit c.requires.0 c.requires.1 c.requires.2 c.requires.3 c.if-b-i.false c.if-unit-eq1.true
+    let f = a.form in
+    unit_one a.b.now (a.x * f.unit) (a.y * f.unit) f.unit f.fits.some_unit f.fits.small_unit c.requires.0 c.requires.1 c.if-b-i.false c.if-form-eq1.true
 
 pub returns : goal.returns
 returns c =
     let a = c.args in
-    unit_two a.b.now (a.x * a.unit) (a.y * a.unit) a.unit c.requires.0 c.requires.1 c.requires.2 c.requires.3 c.if-b-i.false c.if-unit-eq1.false
+    let f = a.form in
+    unit_two a.b.now (a.x * f.unit) (a.y * f.unit) f.unit f.fits.some_unit f.fits.small_unit c.requires.0 c.requires.1 c.if-b-i.false c.if-form-eq1.false

@@ -2,8 +2,8 @@
 use Rattle.house_packets.proofs.GapLaws.{shortened_none, shortened_some}
 use Rattle.house_packets.proofs.shortened.Goals as goal
 
-pub returns-then-g-longest : goal.returns-then-g-longest
-returns-then-g-longest c = shortened_none c.args.longest c.args.g c.requires c.if-g-longest.true
+pub returns-then-g-form : goal.returns-then-g-form
+returns-then-g-form c = let a = c.args in shortened_none a.form.longest a.g a.form.fits.some_longest c.if-g-form.true
 
 pub returns : goal.returns
-returns c = shortened_some c.args.longest c.args.g c.requires c.if-g-longest.false
+returns c = let a = c.args in shortened_some a.form.longest a.g a.form.fits.some_longest c.if-g-form.false

@@ -1,5 +1,5 @@
 -- `rewrite_accepted` meets its contract: the working pair becomes a copy of the previous one, is played on, and is what the house frame leads to.
-use Rattle.state.specs.State.{state}
+use Rattle.state.specs.State.{state, shown}
 use Rattle.state.specs.Outcome.{fitted}
 use Rattle.house_frame.specs.House.{house_frame}
 use Rattle.read_frame.specs.Frame.{frame}
@@ -33,5 +33,5 @@ returns c =
       palette = palette;
       output =
           c.write_house.ensures
-          ∙ ap₂ (λ (x y : List ℕ). fitted (house_frame a.size (state a.previous_picture.now a.previous_palette.now) (state x y)) a.out.now) picture palette;
+          ∙ ap₂ (λ (x y : List ℕ). fitted (house_frame a.size (shown a.previous) (state x y)) a.out.now) picture palette;
     }

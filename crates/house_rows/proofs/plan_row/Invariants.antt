@@ -5,7 +5,4 @@ use Rattle.house_rows.proofs.plan_row.Given as goal
 
 abbrev pub invariant-loop-i : goal.invariant-loop-i
 invariant-loop-i l =
-    Searching l.row l.w l.sums l.first l.far l.i l.repeat l.split l.near l.here l.turns
-
-abbrev pub decreases-loop-i : goal.decreases-loop-i
-decreases-loop-i l = l.i
+    Searching l.row l.w l.sums l.first l.far l.i l.repeat l.ends.split l.ends.near l.here l.ends.turns

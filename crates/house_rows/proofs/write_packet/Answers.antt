@@ -20,7 +20,7 @@ returns-then-t-lt128 c =
     let a = c.args in
     let one = carried_plus a.t c.if-t-lt128.true in (
       omega arith,
-      c.put_two.ensures ∙ ap₂ (λ (t v : ℕ). put a.out.now a.at (t ∷ v ∷ [])) c.wide.ensures.0 c.wide-then-t-lt128.ensures.0
+      c.put_two.ensures ∙ ap₂ (λ (t v : ℕ). put a.out.now a.at (t ∷ v ∷ [])) c.from.ensures c.from-then-t-lt128.ensures
           ∙ put_repeat a.out.now a.row.now a.at a.x a.t c.if-t-lt128.true (omega arith),
     )
 
@@ -31,17 +31,12 @@ pub put_bytes-requires : goal.put_bytes-requires
 put_bytes-requires c =
     let a = c.args in
     let n = carried_minus a.t c.if-t-lt128.false in
-    rw (length-set, part_length a.row.now a.x (256 - c.wide-n.result) (omega arith)) (omega arith)
-
-pub shape_of-out : goal.shape_of-out
-shape_of-out c =
-    let a = c.args in
-    omega (arith, length-set a.out.now a.at a.t)
+    rw (length-set, part_length a.row.now a.x (256 - c.from-n.result) (omega arith)) (omega arith)
 
 pub returns : goal.returns
 returns c =
     let a = c.args in
     let n = carried_minus a.t c.if-t-lt128.false in (
       omega arith,
-      c.put_bytes.ensures ∙ put_copy a.out.now a.row.now a.at a.x a.t (256 - c.wide-n.result) (omega arith) (omega arith),
+      c.put_bytes.ensures ∙ put_copy a.out.now a.row.now a.at a.x a.t (256 - c.from-n.result) (omega arith) (omega arith),
     )

@@ -5,16 +5,13 @@ use Prim.Native.Nat.{ℕ, ◌<◌}
 use native.Mathlib.Omega.{arith}
 use lib.ListN.{length, get_or}
 use Rattle.house_rows.specs.Search.{types}
-use Rattle.house_rows.proofs.Writing.{writing_first, packet_fits, writing_more, writing_as, writing_done}
+use Rattle.house_rows.proofs.Writing.{packet_fits, writing_more, writing_as, writing_done}
 use Rattle.house_rows.proofs.Types.{type_at, length_types, types_at}
 use Rattle.house_rows.proofs.write_row.Goals as goal
 
 -- the type at column x
 type : (row first : List ℕ) (x : ℕ) → first ≡ types row → x < length row → get_or first x 0 ≡ type_at row x
 type row first x e h = ap (λ (f : List ℕ). get_or f x 0) e ∙ types_at row x h
-
-pub loop-x-init : goal.loop-x-init
-loop-x-init c = writing_first c.args.row.now c.args.out.now c.args.at (omega arith)
 
 pub bounds-first-x : goal.bounds-first-x
 bounds-first-x c = omega (arith, ap length c.requires.1, length_types c.args.row.now)
@@ -33,16 +30,6 @@ overflow_add-here c =
     let fit = packet_fits L.invariant (get_or a.first.now L.x 0) (omega arith) (type a.row.now a.first.now L.x c.requires.1 (omega arith)) in
     omega (arith, fit)
 
-pub overflow_add-x : goal.overflow_add-x
-overflow_add-x c =
-    let a = c.args in
-    let L = c.loop-x in
-    let fit = packet_fits L.invariant (get_or a.first.now L.x 0) (omega arith) (type a.row.now a.first.now L.x c.requires.1 (omega arith)) in
-    omega (arith, fit)
-
-pub overflow_add-packets : goal.overflow_add-packets
-overflow_add-packets c = omega (arith, c.loop-x.invariant.few)
-
 pub loop-x-smaller : goal.loop-x-smaller
 loop-x-smaller c =
     let a = c.args in
@@ -60,9 +47,6 @@ loop-x-preserved c =
 
 pub overflow_sub-result : goal.overflow_sub-result
 overflow_sub-result c = omega (arith, writing_done c.loop-x.invariant c.loop-x-test.false)
-
-pub shape_of-out : goal.shape_of-out
-shape_of-out c = c.loop-x.invariant.long
 
 pub returns : goal.returns
 returns c = let d = writing_done c.loop-x.invariant (omega arith) in (d.0, omega arith, d.2)

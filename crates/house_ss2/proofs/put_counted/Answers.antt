@@ -1,17 +1,10 @@
 -- The packets, and then their count in front of them.
-use Rattle.house_ss2.proofs.LineLaws.{pairs_form, counted_length, counted_stored}
+use Rattle.house_ss2.proofs.LineLaws.{counted_length, counted_stored}
 use native.Mathlib.Omega.{arith}
 use Rattle.house_ss2.proofs.put_counted.Goals as goal
 
 pub put_row-p-requires : goal.put_row-p-requires
-put_row-p-requires c =
-    let a = c.args in (
-      pairs_form,
-      omega (arith, c.requires),
-      omega (arith, c.requires),
-      omega (arith, c.requires),
-      omega (arith, c.requires.3, counted_length a.width a.a.now a.b.now),
-    )
+put_row-p-requires c = omega (arith, c.requires, counted_length c.args.width c.args.a.now c.args.b.now)
 
 pub put_u16-requires : goal.put_u16-requires
 put_u16-requires c =

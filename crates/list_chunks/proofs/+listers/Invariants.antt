@@ -11,16 +11,14 @@ abbrev pub decreases-list_children : goal.decreases-list_children
 decreases-list_children l = 2 * (l.to - l.from) + 1
 
 abbrev pub decreases-list_container : goal.decreases-list_container
-decreases-list_container l = 2 * (l.end - l.at)
+decreases-list_container l = 2 * (l.container.end - l.at)
 
-abbrev pub invariant-list_children-loop-left : goal.invariant-list_children-loop-left
-invariant-list_children-loop-left l = record {
+abbrev pub invariant-list_children-loop : goal.invariant-list_children-loop
+invariant-list_children-loop l = record {
   after_start : l.from ≤ l.at;
   within : l.at ≤ l.to;
   long : length l.out ≡ length l.initial.out;
   room : Lines l.n (l.to - l.at) l.out;
-  resumes : Resumes l.initial.out l.start (children_of l.b l.depth l.parent l.to l.count l.from) l.out l.n (children_of l.b l.depth l.parent l.to l.left l.at);
+  resumes : Resumes l.initial.out l.start (children_of l.b l.depth l.parent l.to l.count l.from) l.out l.n
+      (children_of l.b l.depth l.parent l.to (l.count - l.counter) l.at);
 }
-
-abbrev pub decreases-list_children-loop-left : goal.decreases-list_children-loop-left
-decreases-list_children-loop-left l = l.left

@@ -19,7 +19,7 @@ room : (b out : List ℕ) (w h frames end : ℕ) → ((i : ℕ) → get_or b i 0
 room b out w h frames end bytes l least most fits = omega (arith, reel_short b bytes w h frames end (length b) l least most)
 
 pub put_head-n-requires : goal.put_head-n-requires
-put_head-n-requires c = let a = c.args in omega (arith, listed_head a.b.now a.width a.height a.frames c.requires.0, c.requires.3)
+put_head-n-requires c = let a = c.args in omega (arith, listed_head a.b.now a.head.picture.width a.head.picture.height a.head.frames c.requires.0, c.requires.3)
 
 pub list_children-m-requires : goal.list_children-m-requires
 list_children-m-requires c =
@@ -32,7 +32,7 @@ list_children-m-requires c =
       omega arith,
       omega (
         arith,
-        listed_head a.b.now a.width a.height a.frames c.requires.0,
+        listed_head a.b.now a.head.picture.width a.head.picture.height a.head.frames c.requires.0,
         c.requires.0.short,
         c.requires.3,
         p.ensures.end,
@@ -52,7 +52,7 @@ put_ok-requires c =
       arith,
       kept,
       kept₀,
-      room a.b.now a.out.now a.width a.height a.frames a.end (λ i. omega (arith, c.type_inv.b i)) c.requires.0 c.requires.1
+      room a.b.now a.out.now a.head.picture.width a.head.picture.height a.head.frames a.end (λ i. omega (arith, c.type_inv.b i)) c.requires.0 c.requires.1
           c.requires.2 c.requires.3,
       p.ensures.end,
       c.list_children-m.ensures.end,
@@ -63,9 +63,10 @@ returns c =
     let a = c.args in
     let p = c.put_head-n in
     let kept : length p.new.out ≡ length a.out.now = p.auto.out in
-    let head = head_line a.width a.height a.frames in
+    let head = head_line a.head.picture.width a.head.picture.height a.head.frames in
     let lines = children_of a.b.now 0 0 a.end (length a.b.now) HEADER_BYTES in
-    let r = room a.b.now a.out.now a.width a.height a.frames a.end (λ i. omega (arith, c.type_inv.b i)) c.requires.0 c.requires.1 c.requires.2 c.requires.3 in
+    let r = room a.b.now a.out.now a.head.picture.width a.head.picture.height a.head.frames a.end (λ i. omega (arith, c.type_inv.b i))
+    c.requires.0 c.requires.1 c.requires.2 c.requires.3 in
     let i = length-append head (lines ++ ok_line) in
     let j = length-append lines ok_line in
     let e = p.ensures.end in

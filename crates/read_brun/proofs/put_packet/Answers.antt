@@ -4,9 +4,6 @@ use Rattle.walk.proofs.Laws.{stored_wet}
 use mathlib.Core.Path.{◌∙◌}
 use Rattle.read_brun.proofs.put_packet.Goals as goal
 
-pub put_pixels-requires : goal.put_pixels-requires
-put_pixels-requires c = (c.requires.0, c.requires.1 c.in-Wet.is)
-
 pub returns-in-Wet : goal.returns-in-Wet
 returns-in-Wet c =
     let a = c.args in

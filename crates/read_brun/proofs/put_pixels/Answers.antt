@@ -20,8 +20,8 @@ bounds-body-at c = omega (arith, data_repeat c.args.code c.if-code-lt128.true)
 pub returns-then-code-lt128 : goal.returns-then-code-lt128
 returns-then-code-lt128 c =
     let a = c.args in
-    let n = c.wide.result in
-    let m : n ≡ a.code = c.wide.ensures.0 in
+    let n = c.from.result in
+    let m : n ≡ a.code = c.from.ensures in
     let k = magnitude_plus a.code c.if-code-lt128.true in
     span_back a.picture.now c.fill.new.part (pixels a.body.now a.at a.code) a.to (a.to + n) n
     (c.fill.ensures ∙ ap (λ (i : ℕ). replicate i (get_or a.body.now a.at 0))
@@ -43,14 +43,14 @@ slice_bounds-copy-end-2 c = omega (arith, data_copy c.args.code c.if-code-lt128.
 pub copy-requires : goal.copy-requires
 copy-requires c =
     let a = c.args in
-    let n = 256 - c.wide-n.result in
+    let n = 256 - c.from-n.result in
     span_length a.body.now a.at (a.at + n) n (omega (arith, data_copy a.code c.if-code-lt128.false)) (omega arith)
     ∙ sym (span_length a.picture.now a.to (a.to + n) n (omega (arith, magnitude_minus a.code c.if-code-lt128.false)) (omega arith))
 
 pub returns : goal.returns
 returns c =
     let a = c.args in
-    let n = 256 - c.wide-n.result in
+    let n = 256 - c.from-n.result in
     let k = magnitude_minus a.code c.if-code-lt128.false in
     let z : a.at + n - a.at ≡ 256 - a.code = omega arith in
     span_back a.picture.now c.copy.new.dst (pixels a.body.now a.at a.code) a.to (a.to + n) n

@@ -9,8 +9,5 @@ use Rattle.read_brun.proofs.walk_brun.Given as goal
 
 abbrev pub invariant-loop-row : goal.invariant-loop-row
 invariant-loop-row l =
-    (l.at ≤ length l.body) × (l.row ≤ l.height) × (length l.picture ≡ length l.initial.picture)
+    (l.at ≤ length l.body) × (length l.picture ≡ length l.initial.picture)
     × (seen l.pass (brun l.width l.height l.body) l.initial.picture ≡ shown l.pass (rows l.width l.body (l.height - l.row) l.at) l.picture (l.row * l.width))
-
-abbrev pub decreases-loop-row : goal.decreases-loop-row
-decreases-loop-row l = l.height - l.row

@@ -1,6 +1,6 @@
 -- At each kind the definition computes to that kind's walk, on the picture or on the palette; the other is left as it was.
-use mathlib.Core.Path.{ap, ◌∙◌}
-use Prim.Native.Nat.{◌*◌}
+use mathlib.Core.Path.{◌≡◌, ap, ◌∙◌, sym}
+use mathlib.Core.List.{[]}
 use native.Mathlib.Omega.{arith}
 use lib.ListN.{length}
 use Rattle.read_colour.specs.Colour.{colour}
@@ -9,75 +9,37 @@ use Rattle.read_full.specs.Full.{black, copied}
 use Rattle.read_brun.specs.Brun.{brun}
 use Rattle.read_lc.specs.Lc.{lc}
 use Rattle.read_ss2.specs.Ss2.{ss2}
+use Rattle.format.specs.Limits.{area}
+use Rattle.walk.specs.Walk.{Verdict}
 use Rattle.read_chunk.specs.Chunk.{judged, by_kind}
-use Rattle.read_chunk.proofs.Laws.{kind_is, kind_other, on_picture_lem, on_palette_lem, no_write}
+use Rattle.read_chunk.proofs.Laws.{judged_right, kind_is, kind_other, on_picture_lem, on_palette_lem, no_write}
 use Rattle.read_chunk.proofs.walk_kind.Goals as goal
+use Rattle.read_chunk.proofs.walk_kind.Goals.{in-4, in-7, in-11, in-12, in-13, in-15, in-16, in_default}
 
-pub returns-in-4 : goal.returns-in-4
+pub returns : goal.returns
 unfolding by_kind
-returns-in-4 c =
+returns c =
     let a = c.args in
-    let x = c.walk_colour in
-    on_palette_lem a.size a.kind a.body.now (colour Of256 a.body.now) a.pass _ (c.judge.ensures ∙ ap (judged (length a.body.now)) x.ensures.verdict)
-    a.picture.now a.palette.now _
-    (kind_is a.size a.kind a.body.now 4 c.in-4.is) x.ensures.writes
-
-pub returns-in-7 : goal.returns-in-7
-unfolding by_kind
-returns-in-7 c =
-    let a = c.args in
-    let x = c.walk_ss2 in
-    on_picture_lem a.size a.kind a.body.now (ss2 a.size.width a.size.height a.body.now) a.pass _
-    (c.judge-in-7.ensures ∙ ap (judged (length a.body.now)) x.ensures.verdict) a.picture.now a.palette.now _
-    (kind_is a.size a.kind a.body.now 7 c.in-7.is) x.ensures.writes
-
-pub returns-in-11 : goal.returns-in-11
-unfolding by_kind
-returns-in-11 c =
-    let a = c.args in
-    let x = c.walk_colour-in-11 in
-    on_palette_lem a.size a.kind a.body.now (colour Of64 a.body.now) a.pass _
-    (c.judge-in-11.ensures ∙ ap (judged (length a.body.now)) x.ensures.verdict) a.picture.now a.palette.now _
-    (kind_is a.size a.kind a.body.now 11 c.in-11.is) x.ensures.writes
-
-pub returns-in-12 : goal.returns-in-12
-unfolding by_kind
-returns-in-12 c =
-    let a = c.args in
-    let x = c.walk_lc in
-    on_picture_lem a.size a.kind a.body.now (lc a.size.width a.size.height a.body.now) a.pass _
-    (c.judge-in-12.ensures ∙ ap (judged (length a.body.now)) x.ensures.verdict) a.picture.now a.palette.now _
-    (kind_is a.size a.kind a.body.now 12 c.in-12.is) x.ensures.writes
-
-pub returns-in-13 : goal.returns-in-13
-unfolding by_kind
-returns-in-13 c =
-    let a = c.args in
-    let x = c.walk_black in
-    on_picture_lem a.size a.kind a.body.now (black (a.size.width * a.size.height)) a.pass _
-    (c.judge-in-13.ensures ∙ ap (judged (length a.body.now)) x.ensures.verdict) a.picture.now a.palette.now _
-    (kind_is a.size a.kind a.body.now 13 c.in-13.is) x.ensures.writes
-
-pub returns-in-15 : goal.returns-in-15
-unfolding by_kind
-returns-in-15 c =
-    let a = c.args in
-    let x = c.walk_brun in
-    on_picture_lem a.size a.kind a.body.now (brun a.size.width a.size.height a.body.now) a.pass _
-    (c.judge-in-15.ensures ∙ ap (judged (length a.body.now)) x.ensures.verdict) a.picture.now a.palette.now _
-    (kind_is a.size a.kind a.body.now 15 c.in-15.is) x.ensures.writes
-
-pub returns-in-16 : goal.returns-in-16
-unfolding by_kind
-returns-in-16 c =
-    let a = c.args in
-    let x = c.walk_copy in
-    on_picture_lem a.size a.kind a.body.now (copied (a.size.width * a.size.height) a.body.now) a.pass _
-    (c.judge-in-16.ensures ∙ ap (judged (length a.body.now)) x.ensures.verdict) a.picture.now a.palette.now _
-    (kind_is a.size a.kind a.body.now 16 c.in-16.is) x.ensures.writes
-
-pub returns-in_default : goal.returns-in_default
-returns-in_default c =
-    let a = c.args in
-    no_write _ _ a.pass a.picture.now a.palette.now
-    (kind_other a.size a.kind a.body.now (omega arith) (omega arith) (omega arith) (omega arith) (omega arith) (omega arith) (omega arith))
+    let b = a.body.now in
+    let out : (v : Verdict) → c.match-kind.verdict ≡ v → c.judge.result ≡ judged (length b) v = λ v e. c.judge.ensures ∙ ap (judged (length b)) e in
+    elim c.match-kind.branch [
+      | in-4 w ↦ on_palette_lem a.size a.kind b (colour Of256 b) _ _ _ _ _ _ (out _ (w.verdict-is ∙ w.walk_colour-verdict.ensures.verdict))
+          (kind_is a.size a.kind b 4 w.in-4.is) w.picture-is (w.palette-is ∙ w.walk_colour-verdict.ensures.writes)
+      | in-7 w ↦ on_picture_lem a.size a.kind b (ss2 a.size.width a.size.height b) _ _ _ _ _ _ (out _ (w.verdict-is ∙ w.walk_ss2-verdict.ensures.verdict))
+          (kind_is a.size a.kind b 7 w.in-7.is) (w.picture-is ∙ w.walk_ss2-verdict.ensures.writes) w.palette-is
+      | in-11 w ↦ on_palette_lem a.size a.kind b (colour Of64 b) _ _ _ _ _ _ (out _ (w.verdict-is ∙ w.walk_colour-verdict-in-11.ensures.verdict))
+          (kind_is a.size a.kind b 11 w.in-11.is) w.picture-is (w.palette-is ∙ w.walk_colour-verdict-in-11.ensures.writes)
+      | in-12 w ↦ on_picture_lem a.size a.kind b (lc a.size.width a.size.height b) _ _ _ _ _ _ (out _ (w.verdict-is ∙ w.walk_lc-verdict.ensures.verdict))
+          (kind_is a.size a.kind b 12 w.in-12.is) (w.picture-is ∙ w.walk_lc-verdict.ensures.writes) w.palette-is
+      | in-13 w ↦ on_picture_lem a.size a.kind b (black (area a.size)) _ _ _ _ _ _ (out _ (w.verdict-is ∙ w.walk_black-verdict.ensures.verdict))
+          (kind_is a.size a.kind b 13 w.in-13.is) (w.picture-is ∙ w.walk_black-verdict.ensures.writes) w.palette-is
+      | in-15 w ↦ on_picture_lem a.size a.kind b (brun a.size.width a.size.height b) _ _ _ _ _ _ (out _ (w.verdict-is ∙ w.walk_brun-verdict.ensures.verdict))
+          (kind_is a.size a.kind b 15 w.in-15.is) (w.picture-is ∙ w.walk_brun-verdict.ensures.writes) w.palette-is
+      | in-16 w ↦ on_picture_lem a.size a.kind b (copied (area a.size) b) _ _ _ _ _ _ (out _ (w.verdict-is ∙ w.walk_copy-verdict.ensures.verdict))
+          (kind_is a.size a.kind b 16 w.in-16.is) (w.picture-is ∙ w.walk_copy-verdict.ensures.writes) w.palette-is
+      | in_default w ↦ no_write _ _ _ _ _ _ _
+          (kind_other a.size a.kind b (omega arith) (omega arith) (omega arith) (omega arith) (omega arith) (omega arith) (omega arith)
+          ∙ ap (λ (v : Verdict). record { pixels = []; colours = []; verdict = v })
+          (sym (out _ w.verdict-is ∙ judged_right (length b) (length b) (omega arith))))
+          w.picture-is w.palette-is
+    ]

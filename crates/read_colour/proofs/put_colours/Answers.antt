@@ -13,30 +13,26 @@ use Rattle.walk.proofs.Laws.{stored_wet}
 use Rattle.read_colour.specs.Colour.{level, levels_ok}
 use Rattle.read_colour.proofs.put_colours.Goals as goal
 
-pub overflow_add-to : goal.overflow_add-to
-overflow_add-to c = omega (arith, c.requires.1 c.in-Wet.is)
-
-pub slice_bounds-put_levels-end : goal.slice_bounds-put_levels-end
-slice_bounds-put_levels-end c = omega (arith, c.requires.1 c.in-Wet.is)
-
 pub put_levels-requires : goal.put_levels-requires
 put_levels-requires c =
-    let a = c.args in record {
-      src_len = part_length a.body.now a.from a.len c.requires.0 ∙ sym (part_length a.palette.now a.to a.len (c.requires.1 c.in-Wet.is));
-      src_value = ap (λ (n : ℕ). levels_ok a.levels (take n (drop a.from a.body.now))) (add-sub_cancel_left a.from a.len) ∙ c.requires.2;
+    let a = c.args in
+    let p = a.p in record {
+      src_len = part_length a.body.now p.from p.len c.requires.0 ∙ sym (part_length a.palette.now p.to p.len (c.requires.1 c.in-Wet.is));
+      src_value = ap (λ (n : ℕ). levels_ok a.levels (take n (drop p.from a.body.now))) (add-sub_cancel_left p.from p.len) ∙ c.requires.2;
     }
 
 pub returns-in-Dry : goal.returns-in-Dry
 returns-in-Dry c =
     let a = c.args in
-    sym (ap (λ (p : Pass). stored p a.palette.now a.to (map (level a.levels) (take a.len (drop a.from a.body.now)))) c.in-Dry.is)
+    sym (ap (λ (k : Pass). stored k a.palette.now a.p.to (map (level a.levels) (take a.p.len (drop a.p.from a.body.now)))) c.in-Dry.is)
 
 pub returns-in-Wet : goal.returns-in-Wet
 returns-in-Wet c =
     let a = c.args in
-    let v = map (level a.levels) (take a.len (drop a.from a.body.now)) in
-    lent_back a.palette.now c.put_levels.new.dst v a.to (a.to + a.len - a.to)
-    (c.put_levels.ensures ∙ ap (λ (n : ℕ). map (level a.levels) (take n (drop a.from a.body.now))) (add-sub_cancel_left a.from a.len))
-    (length-map (take a.len (drop a.from a.body.now)) (level a.levels)
-    ∙ length-take-le _ _ (simp length-drop (omega (arith, c.requires.0))) ∙ sym (add-sub_cancel_left a.to a.len))
-    ∙ stored_wet a.pass a.palette.now a.to v c.in-Wet.is
+    let p = a.p in
+    let v = map (level a.levels) (take p.len (drop p.from a.body.now)) in
+    lent_back a.palette.now c.put_levels.new.dst v p.to (p.to + p.len - p.to)
+    (c.put_levels.ensures ∙ ap (λ (n : ℕ). map (level a.levels) (take n (drop p.from a.body.now))) (add-sub_cancel_left p.from p.len))
+    (length-map (take p.len (drop p.from a.body.now)) (level a.levels)
+    ∙ length-take-le _ _ (simp length-drop (omega (arith, c.requires.0))) ∙ sym (add-sub_cancel_left p.to p.len))
+    ∙ stored_wet a.pass a.palette.now p.to v c.in-Wet.is

@@ -10,19 +10,18 @@ use mathlib.Core.Path.{ap₂, ◌∙◌}
 use Rattle.read_colour.proofs.put_raised.Goals as goal
 
 pub raised_level-requires : goal.raised_level-requires
-raised_level-requires c = level_small _ _ c.requires.src_value c.loop-i-test.true
+raised_level-requires c = level_small _ _ c.requires.src_value (omega arith)
 
 pub loop-i-preserved : goal.loop-i-preserved
 loop-i-preserved c =
     let l = c.loop-i in
     let a = c.args in (
-      omega arith,
-      ap₂ (λ (x : List ℕ) (y : ℕ). set x l.i y) l.invariant.1 c.raised_level.ensures ∙ map_more raised l.i a.src.now a.dst.now (omega arith) (omega arith),
-      simp length-set l.invariant.2,
+      ap₂ (λ (x : List ℕ) (y : ℕ). set x l.i y) l.invariant.0 c.raised_level.ensures ∙ map_more raised l.i a.src.now a.dst.now (omega arith) (omega arith),
+      simp length-set l.invariant.1,
     )
 
 pub returns : goal.returns
 returns c =
     let l = c.loop-i in
     let a = c.args in
-    l.invariant.1 ∙ mapped_all raised l.i a.src.now a.dst.now (omega arith) (omega arith)
+    l.invariant.0 ∙ mapped_all raised l.i a.src.now a.dst.now (omega arith) (omega arith)

@@ -7,9 +7,6 @@ use Rattle.words.proofs.Laws.{span_length}
 use Rattle.read_full.proofs.Laws.{black_whole, front_dry, front_wet}
 use Rattle.read_full.proofs.walk_black.Goals as goal
 
-pub slice_bounds-fill-end : goal.slice_bounds-fill-end
-slice_bounds-fill-end c = omega (arith, c.requires c.in-Wet.is)
-
 pub returns-in-Dry : goal.returns-in-Dry
 returns-in-Dry c = let a = c.args in front_dry (black_whole a.n) a.pass a.picture.now c.in-Dry.is
 

@@ -13,9 +13,6 @@ returns-then-body-n c =
     let a = c.args in
     seen_gives _ _ _ _ _ (seen_none a.pass _ a.picture.now _ (copied_short a.n a.body.now c.if-body-n.true))
 
-pub slice_bounds-copy-end : goal.slice_bounds-copy-end
-slice_bounds-copy-end c = omega (arith, c.requires c.in-Wet.is)
-
 pub returns-in-Dry : goal.returns-in-Dry
 returns-in-Dry c =
     let a = c.args in

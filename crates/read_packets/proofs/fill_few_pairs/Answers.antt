@@ -12,10 +12,10 @@ pub returns : goal.returns
 returns c =
     let a = c.args in
     let pre = c.requires in
-    let x = c.wide in
-    let y = c.wide-2 in
+    let x = c.from in
+    let y = c.from-2 in
     let pair = x.result + 256 * y.result in
     let v = le32 (pair + 65536 * pair) [] in
-    let word = pairs_word a.p a.q pair (omega (arith, x.ensures.0)) (omega (arith, y.ensures.0)) (omega (arith, x.ensures.0, y.ensures.0)) in
+    let word = pairs_word a.p a.q pair (omega (arith, c.ranges.p.fits)) (omega (arith, c.ranges.q.fits)) (omega (arith, x.ensures, y.ensures)) in
     c.put_u32-2.ensures ∙ ap (λ (l : List ℕ). put l (2 * a.n - 4) v) c.put_u32.ensures
     ∙ few_pairs a.part.now v a.n a.p a.q word pre.0 pre.1 pre.2

@@ -10,7 +10,7 @@ use Rattle.read_ss2.proofs.walk_ss2.Given as goal
 
 abbrev pub invariant-loop-left : goal.invariant-loop-left
 invariant-loop-left l =
-    (l.at ≤ length l.body) × (l.row ≤ l.height) × (length l.picture ≡ length l.initial.picture)
+    (l.at ≤ length l.body) × (l.row ≤ l.height)
     × (seen l.pass (ss2 l.width l.height l.body) l.initial.picture ≡ seen l.pass (lines_from l.width l.height l.body l.left l.row l.at) l.picture)
 
 abbrev pub decreases-loop-left : goal.decreases-loop-left

@@ -1,6 +1,11 @@
 -- `open_fli` meets its contract: the checks stand in the paper's order, and where all hold the header comes back in the first 128 bytes.
 use mathlib.Core.Bool.{true, false}
-use mathlib.Core.Path.{refl, sym, ◌∙◌}
+use mathlib.Core.Path.{refl, sym, ap, ◌∙◌}
+use mathlib.Core.List.{◌++◌}
+use lib.ListN.{drop}
+use Rattle.std.specs.Prelude.{Ok}
+use Rattle.reel_build.specs.declared.Reel.{Reel}
+use Rattle.reel_build.specs.Record.{no_reel, built}
 use native.Mathlib.Omega.{arith}
 use borrow.Author.Tests.{le-leb, lt-leb}
 use lib.Seq.{length-take-le}
@@ -11,26 +16,23 @@ use Rattle.delay.specs.Delay.{jiffies}
 use Rattle.state.specs.Outcome.{lent_bytes}
 use Rattle.reel_header.specs.Written.{opened_fli}
 use Rattle.reel_header.proofs.Laws.{opened_fli_length}
-use Rattle.reel_build.proofs.Laws.{refused_none, opening_short, opening_done, open_fli_is}
+use Rattle.reel_build.proofs.Laws.{opening_short, opening_done, open_fli_is}
 use Rattle.reel_build.proofs.open_fli.Goals as goal
 
 pub returns-then-not-size_fits : goal.returns-then-not-size_fits
 returns-then-not-size_fits c =
     let a = c.args in
-    refused_none _ _ _ _ c.refused.ensures c.no_reel.ensures (lent_bytes a.bytes.now)
-    ∙ open_fli_is a.width a.height a.bytes.now false a.delay _ (sym c.size_fits.ensures ∙ c.if-not-size_fits.true) refl
+    open_fli_is a.width a.height a.bytes.now false a.delay _ (sym c.size_fits.ensures ∙ c.if-not-size_fits.true) refl
 
 pub returns-then-delay-gt65535 : goal.returns-then-delay-gt65535
 returns-then-delay-gt65535 c =
     let a = c.args in
-    refused_none _ _ _ _ c.refused-then-delay-gt65535.ensures c.no_reel-then-delay-gt65535.ensures (lent_bytes a.bytes.now)
-    ∙ open_fli_is a.width a.height a.bytes.now true a.delay false (sym c.size_fits.ensures ∙ c.if-not-size_fits.false) (lt-leb a.delay 65535 (omega arith))
+    open_fli_is a.width a.height a.bytes.now true a.delay false (sym c.size_fits.ensures ∙ c.if-not-size_fits.false) (lt-leb a.delay 65535 (omega arith))
 
 pub returns-then-bytes-lt-HEADER_BYTES : goal.returns-then-bytes-lt-HEADER_BYTES
 returns-then-bytes-lt-HEADER_BYTES c =
     let a = c.args in
-    refused_none _ _ _ _ c.refused-then-bytes-lt-HEADER_BYTES.ensures c.no_reel-then-bytes-lt-HEADER_BYTES.ensures (lent_bytes a.bytes.now)
-    ∙ sym (opening_short (size_of Fli a.width a.height) (opened_fli a.width a.height (jiffies a.delay)) a.bytes.now c.if-bytes-lt-HEADER_BYTES.true)
+    sym (opening_short (size_of Fli a.width a.height) (opened_fli a.width a.height (jiffies a.delay)) a.bytes.now c.if-bytes-lt-HEADER_BYTES.true)
     ∙ open_fli_is a.width a.height a.bytes.now true a.delay true (sym c.size_fits.ensures ∙ c.if-not-size_fits.false)
     (le-leb a.delay 65535 c.if-delay-gt65535.false)
 
@@ -43,8 +45,8 @@ write_fli_header-requires c =
 pub returns : goal.returns
 returns c =
     let a = c.args in
-    opening_done (size_of Fli a.width a.height) (opened_fli a.width a.height (jiffies a.delay)) a.bytes.now
+    ap (λ (r : Reel). built no_reel (Ok r) (lent_bytes (c.write_fli_header.new.out ++ drop 128 a.bytes.now))) c.new_reel.ensures
+    ∙ opening_done (size_of Fli a.width a.height) (opened_fli a.width a.height (jiffies a.delay)) a.bytes.now
     (opened_fli_length a.width a.height (jiffies a.delay)) c.if-bytes-lt-HEADER_BYTES.false c.write_fli_header.new.out c.write_fli_header.ensures
-    c.new_reel.result c.new_reel.ensures
     ∙ open_fli_is a.width a.height a.bytes.now true a.delay true (sym c.size_fits.ensures ∙ c.if-not-size_fits.false)
     (le-leb a.delay 65535 c.if-delay-gt65535.false)

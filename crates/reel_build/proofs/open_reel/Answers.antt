@@ -1,6 +1,11 @@
 -- `open_reel` meets its contract: the checks stand in the paper's order, and where all hold the header comes back in the first 128 bytes.
 use mathlib.Core.Bool.{true, false}
-use mathlib.Core.Path.{sym, ◌∙◌}
+use mathlib.Core.Path.{sym, ap, ◌∙◌}
+use mathlib.Core.List.{◌++◌}
+use lib.ListN.{drop}
+use Rattle.std.specs.Prelude.{Ok}
+use Rattle.reel_build.specs.declared.Reel.{Reel}
+use Rattle.reel_build.specs.Record.{no_reel, built}
 use native.Mathlib.Omega.{arith}
 use lib.Seq.{length-take-le}
 use Rattle.format.specs.Limits.{size_of}
@@ -9,20 +14,18 @@ use Rattle.format.proofs.Laws.{size_in_lem}
 use Rattle.state.specs.Outcome.{lent_bytes}
 use Rattle.reel_header.specs.Written.{opened}
 use Rattle.reel_header.proofs.Laws.{opened_length}
-use Rattle.reel_build.proofs.Laws.{refused_none, opening_short, opening_done, open_is}
+use Rattle.reel_build.proofs.Laws.{opening_short, opening_done, open_is}
 use Rattle.reel_build.proofs.open_reel.Goals as goal
 
 pub returns-then-not-size_fits : goal.returns-then-not-size_fits
 returns-then-not-size_fits c =
     let a = c.args in
-    refused_none _ _ _ _ c.refused.ensures c.no_reel.ensures (lent_bytes a.bytes.now)
-    ∙ open_is a.width a.height a.bytes.now false a.speed (sym c.size_fits.ensures ∙ c.if-not-size_fits.true)
+    open_is a.width a.height a.bytes.now false a.speed (sym c.size_fits.ensures ∙ c.if-not-size_fits.true)
 
 pub returns-then-bytes-lt-HEADER_BYTES : goal.returns-then-bytes-lt-HEADER_BYTES
 returns-then-bytes-lt-HEADER_BYTES c =
     let a = c.args in
-    refused_none _ _ _ _ c.refused-then-bytes-lt-HEADER_BYTES.ensures c.no_reel-then-bytes-lt-HEADER_BYTES.ensures (lent_bytes a.bytes.now)
-    ∙ sym (opening_short (size_of Flc a.width a.height) (opened a.width a.height a.speed) a.bytes.now c.if-bytes-lt-HEADER_BYTES.true)
+    sym (opening_short (size_of Flc a.width a.height) (opened a.width a.height a.speed) a.bytes.now c.if-bytes-lt-HEADER_BYTES.true)
     ∙ open_is a.width a.height a.bytes.now true a.speed (sym c.size_fits.ensures ∙ c.if-not-size_fits.false)
 
 pub write_header-requires : goal.write_header-requires
@@ -34,6 +37,7 @@ write_header-requires c =
 pub returns : goal.returns
 returns c =
     let a = c.args in
-    opening_done (size_of Flc a.width a.height) (opened a.width a.height a.speed) a.bytes.now (opened_length a.width a.height a.speed)
-    c.if-bytes-lt-HEADER_BYTES.false c.write_header.new.out c.write_header.ensures c.new_reel.result c.new_reel.ensures
+    ap (λ (r : Reel). built no_reel (Ok r) (lent_bytes (c.write_header.new.out ++ drop 128 a.bytes.now))) c.new_reel.ensures
+    ∙ opening_done (size_of Flc a.width a.height) (opened a.width a.height a.speed) a.bytes.now (opened_length a.width a.height a.speed)
+    c.if-bytes-lt-HEADER_BYTES.false c.write_header.new.out c.write_header.ensures
     ∙ open_is a.width a.height a.bytes.now true a.speed (sym c.size_fits.ensures ∙ c.if-not-size_fits.false)
