@@ -385,7 +385,8 @@ check_says b first second v e = by (head_of Both b) e
     by (Err r) q = answered (Err (refused_at r 0)) q
     by (Ok h) q =
         let x = play_all Loose h.frames h.picture (take h.size b) in
-        cond_holds (λ (o : Outcome). o.said ≡ done v → v ≡ []) (enough (area h.picture) first && enough (area h.picture) second) (checked_by (area h.picture) x first second)
+        cond_holds (λ (o : Outcome). o.said ≡ done v → v ≡ []) (enough (area h.picture) first && enough (area h.picture) second)
+        (checked_by (area h.picture) x first second)
         (refuse ShortSlice 0 (lent_pairs first second))
         (answered (ring_answer x)) (answered (Err (refused_at ShortSlice 0))) q
 

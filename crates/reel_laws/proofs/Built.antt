@@ -269,8 +269,10 @@ module _ (z : Size) (speed : ℕ) (b : List ℕ) (r : Reel) (first : State) (res
         by_test (λ t. Fine (close_reel open_reel_lem b p q)) (enough (area z) p)
         (λ e. by_test (λ t. Fine (close_reel open_reel_lem b p q)) (enough (area z) q)
         (λ f. subst Fine (sym (close_is e f)) ring_fine)
-        (λ f. subst Fine (sym (close_short open_reel_lem b p q taken ok (ap₂ (λ (x y : Bool). x && y) e f))) (refused_fine ShortSlice 0 open_reel_lem (lent_bytes_pairs b p q))))
-        (λ e. subst Fine (sym (close_short open_reel_lem b p q taken ok (ap (λ (x : Bool). x && enough (area z) q) e))) (refused_fine ShortSlice 0 open_reel_lem (lent_bytes_pairs b p q)))
+        (λ f. subst Fine (sym (close_short open_reel_lem b p q taken ok (ap₂ (λ (x y : Bool). x && y) e f)))
+        (refused_fine ShortSlice 0 open_reel_lem (lent_bytes_pairs b p q))))
+        (λ e. subst Fine (sym (close_short open_reel_lem b p q taken ok (ap (λ (x : Bool). x && enough (area z) q) e)))
+        (refused_fine ShortSlice 0 open_reel_lem (lent_bytes_pairs b p q)))
 
     pub close_finishes : (close_reel r b p q).left.said ≡ done []
         → Finished z speed first rest (take (close_reel r b p q).reel.end (close_reel r b p q).left.memory.bytes) (close_reel r b p q).reel

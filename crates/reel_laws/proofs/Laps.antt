@@ -89,7 +89,8 @@ module _ (z : Size) (ok : size_fits z ≡ true) where
       pub read : read_frame (part b from end) z s ≡ leaves (told (Ok tt)) (lent_pair t)
       pub exact : Exact z t
 
-    pub one_read : (at : ℕ) (s : State) → Exact z s → (from end : ℕ) (t : State) → one_frame Loose z b at s ≡ ran (Ok (frame_to from end)) t → One at s from end t
+    pub one_read : (at : ℕ) (s : State) → Exact z s → (from end : ℕ) (t : State) → one_frame Loose z b at s ≡ ran (Ok (frame_to from end)) t
+        → One at s from end t
     unfolding one_frame
     one_read at s i from end t e = by (next_at Loose b at) refl e
       where
@@ -145,7 +146,8 @@ module _ (z : Size) (ok : size_fits z ≡ true) where
     unfolding states
     states_none at s = ap (λ (x : Spans). states_of z b x.met s) (frame_spans_none Loose b 0 at (omega arith))
 
-    frames_through : (count last at : ℕ) (s : State) → Exact z s → (ring end : ℕ) (t : State) → frames Loose z b count last at s ≡ ran (Ok (frame_to ring end)) t
+    frames_through : (count last at : ℕ) (s : State) → Exact z s → (ring end : ℕ) (t : State)
+        → frames Loose z b count last at s ≡ ran (Ok (frame_to ring end)) t
         → RanThrough count at s t
     frames_through count last at s i ring end t e =
         frames_played Loose z b ring end t (λ n k u. Exact z u → RanThrough n k u t)
@@ -233,5 +235,6 @@ module _ (b : List ℕ) (first second : State) where
       let l = came_leads b c.picture c.count c.size c.speed c.header c.played in
       record {
         leads = l.leads;
-        pairs = c.pairs ∙ ap₂ (λ (n : ℕ) (s : State). leaves (told (Ok tt)) (lent_pairs (refilled n s first) (refilled n s second))) (sym l.pixels) (sym l.shows);
+        pairs = c.pairs ∙ ap₂ (λ (n : ℕ) (s : State). leaves (told (Ok tt)) (lent_pairs (refilled n s first) (refilled n s second)))
+            (sym l.pixels) (sym l.shows);
       }

@@ -70,8 +70,10 @@ module _ (z : Size) (speed : ℕ) {b : List ℕ} {r : Reel} {asked : List State}
       (fitting (house_frame r.size (front (area r.size) s) (front (area r.size) t))
       (house_short (front_exact r.size s size_ok (area r.size) refl k) (front_exact r.size t size_ok (area r.size) refl l))))
       (λ n. subst NotThree (sym (add_record r b s t e size_ok k l n)) (other_not_three r Cut (lent_bytes b) (λ q. omega (arith, q)))))
-      (λ l. subst NotThree (sym (add_short r b s t e size_ok (ap₂ (λ (x y : Bool). x && y) k l))) (other_not_three r ShortSlice (lent_bytes b) (λ q. omega (arith, q)))))
-      (λ k. subst NotThree (sym (add_short r b s t e size_ok (ap (λ (x : Bool). x && enough (area r.size) t) k))) (other_not_three r ShortSlice (lent_bytes b) (λ q. omega (arith, q)))))
+      (λ l. subst NotThree (sym (add_short r b s t e size_ok (ap₂ (λ (x y : Bool). x && y) k l)))
+      (other_not_three r ShortSlice (lent_bytes b) (λ q. omega (arith, q)))))
+      (λ k. subst NotThree (sym (add_short r b s t e size_ok (ap (λ (x : Bool). x && enough (area r.size) t) k)))
+      (other_not_three r ShortSlice (lent_bytes b) (λ q. omega (arith, q)))))
       (λ e. subst NotThree (sym (add_closed r b s t e)) (other_not_three r WrongTime (lent_bytes b) (λ q. omega (arith, q))))
     where
       fitting : (f : List ℕ) → length f ≤ frame_most → NotThree (added r f b)
@@ -111,7 +113,8 @@ module _ (z : Size) (speed : ℕ) {b : List ℕ} {r : Reel} where
           (ap (λ (x : Size). enough (area x) q) (sym same) ∙ f) n.0 n.1))
           (λ f. subst NotThree (sym (close_short r b p q taken sized (ap₂ (λ (x y : Bool). x && y) e f)))
           (other_not_three r ShortSlice (lent_bytes_pairs b p q) (λ k. omega (arith, k)))))
-          (λ e. subst NotThree (sym (close_short r b p q taken sized (ap (λ (x : Bool). x && enough (area r.size) q) e))) (other_not_three r ShortSlice (lent_bytes_pairs b p q) (λ k. omega (arith, k))))
+          (λ e. subst NotThree (sym (close_short r b p q taken sized (ap (λ (x : Bool). x && enough (area r.size) q) e)))
+          (other_not_three r ShortSlice (lent_bytes_pairs b p q) (λ k. omega (arith, k))))
 
 pub room_enough : (z : Size) (speed : ℕ) {b : List ℕ} {r : Reel} {asked : List State} → Making z speed b r asked → RoomEnough z b r asked
 unfolding NotThree
