@@ -1,5 +1,5 @@
-// The entry points for C (include/flic.h), and nothing else: numbers, slices and plain structs. A slice is a pointer and then a length. Numbers stand for refusals,
-// formats, events and a closed reel, since C reads them so.
+// The entry points for C (include/flic.h), and nothing else: numbers, slices and plain structs. A slice is a pointer and then a length.
+// Numbers stand for refusals, formats, events and a closed reel, since C reads them so.
 #![tactic(auto)]
 
 ghost use Rattle.std.specs.Prelude.{◌≡◌};

@@ -156,7 +156,8 @@ module _ (z : Size) (q : List ℕ) (d : ℕ) where
   unfolding shorter_plan
   shorter_brun {r} f k = by_case (ltb d (length (full z q))) f
     where
-      by_case : (t : Bool) → r ≡ cond t (sized (delta_kind z.format) d) (planned (full_kind z.width z.height q) (full z q)) → full_kind z.width z.height q ≡ FLI_BRUN
+      by_case : (t : Bool) → r ≡ cond t (sized (delta_kind z.format) d) (planned (full_kind z.width z.height q) (full z q))
+          → full_kind z.width z.height q ≡ FLI_BRUN
       by_case true i = absurd (omega (arith, (kind_between z.format).1, ap (λ (x : ChunkPlan). x.kind) i))
       by_case false i = sym (ap (λ (x : ChunkPlan). x.kind) i) ∙ k
 
@@ -204,7 +205,8 @@ module _ (z : Size) (p q : List ℕ) where
       by_case false i =
           let e = ltb-true _ _ (not-false _ (sym (ap (λ (x : DeltaPlan). x.search) i) ∙ s)) in
           let l = full_edges z.width z.height q (length (delta_body z p q)) e in (
-            ap (λ (x : DeltaPlan). x.chunk) i ∙ ap (λ (d : Bool). Some (used d)) (sym (lt-ltb (length (delta_chunk z p q)) (length (full z q)) (omega (arith, delta_length)))),
+            ap (λ (x : DeltaPlan). x.chunk) i ∙ ap (λ (d : Bool). Some (used d))
+                (sym (lt-ltb (length (delta_chunk z p q)) (length (full z q)) (omega (arith, delta_length)))),
             λ k. let b : delta_kind z.format ≡ FLI_BRUN = subst OfBrun (ap (λ (x : DeltaPlan). x.chunk) i) k in omega (arith, (kind_between z.format).1),
           )
 

@@ -15,7 +15,7 @@ use Rattle.words.proofs.Laws.{magnitude_plus, magnitude_minus, put_front, same_e
 use Rattle.words.proofs.There.{there_drop, there_take, there_byte, there_long}
 use Rattle.walk.proofs.Gives.{Gives, gives_ends, gives_then, gives_as}
 use Rattle.walk.specs.Walk.{ends, and_then}
-use Rattle.read_brun.specs.Brun.{packet_to, BrunStep, Run, run_before, data_bytes, pixels, packet_at, packets, row, rows, brun}
+use Rattle.read_brun.specs.Brun.{packet_to, Run, run_before, data_bytes, pixels, packet_at, packets, row, rows, brun}
 use Rattle.read_brun.proofs.Laws.{data_repeat, data_copy, pixels_repeat, pixels_copy, packet_whole, packets_none, packets_more, row_open, rows_none, rows_more, brun_verdict, brun_applied}
 use Rattle.read_full.specs.Full.{black, copied}
 use Rattle.read_full.proofs.Laws.{copied_whole}

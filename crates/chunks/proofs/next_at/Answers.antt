@@ -1,6 +1,5 @@
 -- `next_at` meets its contract: the next frame from the start is the next frame from here, whatever was stepped over.
 use mathlib.Core.Path.{◌∙◌, sym, ap}
-use Prim.Native.Nat.{ℕ}
 use native.Mathlib.Omega.{arith}
 use Rattle.std.specs.Prelude.{Result}
 use Rattle.answer.proofs.Laws.{handed_on, placed_ok}

@@ -53,7 +53,8 @@ check_frame-requires c =
 pub returns-in_err-check_frame : goal.returns-in_err-check_frame
 returns-in_err-check_frame c =
     let a = c.args in
-    ap (λ (x : Written). leaves (told_written x) (lent_bytes_pair a.out.now (state a.work_picture.now a.work_palette.now))) (handed_on c.from_residual.ensures.1)
+    ap (λ (x : Written). leaves (told_written x) (lent_bytes_pair a.out.now (state a.work_picture.now a.work_palette.now)))
+    (handed_on c.from_residual.ensures.1)
     ∙ sym (rewrite_read a.bytes.now a.size (shown a.previous) (state a.work_picture.now a.work_palette.now)
     a.out.now (sym c.size_fits.ensures ∙ c.if-not-size_fits.false) (sym c.holds.ensures ∙ c.if-not-holds.false)
     (sym c.holds-2.ensures ∙ c.if-not-holds-2.false) _ (sym c.check_frame.ensures ∙ c.in_err-check_frame.was))

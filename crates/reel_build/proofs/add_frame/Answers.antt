@@ -9,7 +9,7 @@ use Rattle.std.specs.Prelude.{Ok}
 use Rattle.answer.proofs.Laws.{handed_on}
 use Rattle.format.specs.Limits.{area}
 use Rattle.format.proofs.Laws.{size_in_lem}
-use Rattle.state.specs.State.{State, shown, enough}
+use Rattle.state.specs.State.{shown, enough}
 use Rattle.state.specs.Outcome.{lent_bytes}
 use Rattle.state.proofs.Laws.{front_exact}
 use Rattle.reel_build.specs.Record.{reel_of, Built, built}
@@ -90,7 +90,8 @@ returns-in_err-end c =
       ended = sym c.end_ok.ensures ∙ c.if-not-end_ok.false;
     } in
     ap (λ (y : Built). built a.reel y (lent_bytes c.append.new.bytes)) (handed_on c.from_residual.ensures.1)
-    ∙ add_stopped a.reel a.bytes.now lent_shown lent_next p c.append.result c.append.new.bytes _ _ c.front.ensures c.front-2.ensures c.append.ensures _ c.in_err-end.was
+    ∙ add_stopped a.reel a.bytes.now lent_shown lent_next p c.append.result c.append.new.bytes _ _ c.front.ensures c.front-2.ensures
+    c.append.ensures _ c.in_err-end.was
 
 pub returns : goal.returns
 returns c =

@@ -24,7 +24,8 @@ returns-in_err-written c =
     let w = c.write_house in
     append_stopped a.bytes.now
     (house_frame c.args.size (shown c.args.previous) (shown c.args.next)) a.end (c.min-longest.result - a.end)
-    (omega (arith, c.min-longest.ensures, longest_min (length c.args.bytes.now))) w.result w.new.out w.ensures _ c.in_err-written.was _ (handed_on c.from_residual.ensures.1)
+    (omega (arith, c.min-longest.ensures, longest_min (length c.args.bytes.now))) w.result w.new.out w.ensures _ c.in_err-written.was _
+    (handed_on c.from_residual.ensures.1)
 
 pub overflow_add-result : goal.overflow_add-result
 overflow_add-result c =
