@@ -15,7 +15,7 @@ use Rattle.answer.specs.Answer.{done, refused, number, refused_at, placed as ans
 use Rattle.answer.specs.declared.Refused.{Refused}
 use Rattle.answer.specs.declared.Refusal.TheVariants.{ShortSlice, BadSize, Cut}
 use Rattle.state.specs.State.{State, state, blank, enough, front, refilled}
-use Rattle.state.specs.Outcome.{Outcome, lent_pair, lent_pairs, leaves}
+use Rattle.state.specs.Outcome.{Memory, Outcome, lent_pair, lent_pairs, leaves}
 use Rattle.chunks.specs.declared.Layout.TheVariants.{Loose}
 use Rattle.chunks.specs.Spans.{HEADER_BYTES, next_at, frame_to, Next}
 use Rattle.chunks.specs.declared.Frame as chunk
@@ -27,11 +27,12 @@ use Rattle.reel_play.proofs.Laws.{one_fault, one_kept, all_first, all_stopped}
 use Rattle.reel_check.specs.Check.{check_reel}
 use Rattle.reel_check.proofs.Passed.{CheckPassed, check_passed}
 use Rattle.board_clock.specs.declared.Due.{Due}
-use Rattle.board_clock.specs.declared.Due.TheVariants.{Frame}
+use Rattle.board_clock.specs.declared.Due.TheVariants.{Nothing, SetBack, Frame}
+use Rattle.board_clock.specs.declared.Stands.{Stands}
 use Rattle.board_clock.specs.declared.Turn.{Turn}
 use Rattle.board_clock.specs.Clock.{stepped}
 use Rattle.board_player.specs.declared.Player.{Player}
-use Rattle.board_player.specs.Player.{DRAWN, no_player, player_size, standing, place_after, plays}
+use Rattle.board_player.specs.Player.{NOTHING, DRAWN, no_player, player_size, standing, place_after, PlayerOutcome, plays}
 use Rattle.board_player.specs.Ticking.{record_ok, drawn_into, draw, drawn_by, tick_by, clock_of, tick}
 use Rattle.board_player.specs.Starting.{placed_by, placed_at, placed, showing_by, showing_first, started_by, start_player}
 
@@ -123,6 +124,27 @@ module _ (p : Player) (b : List ℕ) (reading : ℕ) (lent : State) (t : Turn) (
     pub tick_drawn : (at : chunk.Frame) (s : State) → ran (Ok at) s ≡ draw p b lent
         → plays (standing p t.stands (place_after p at.end)) (leaves (done (DRAWN ∷ [])) (lent_pair s)) ≡ tick p b reading lent
     tick_drawn at s q = ap (λ (x : Progress). drawn_by p t.stands lent x.result x.after) q ∙ tick_by_lem Frame due
+
+-- a tick that tells nothing leaves the record as it was
+
+module _ (p q : Player) (b : List ℕ) (lent : State) (m : Memory) where
+  abbrev told_by : ℕ → PlayerOutcome
+  told_by n = plays q (leaves (done (n ∷ [])) m)
+
+  drawn_tells : (s : Stands) (r : Ran) (t : State) → told_by NOTHING ≡ drawn_by p s lent r t → q ≡ p
+  drawn_tells s (Ok f) t e = let q = ap (λ (o : PlayerOutcome). o.left.said) e in let z : ◌≡◌ {A = ℕ} 0 1 = cc in absurd (omega arith)
+  drawn_tells s (Err r) t e = let q = ap (λ (o : PlayerOutcome). o.left.said) e in let z : ◌≡◌ {A = ℕ} 0 1 = cc in absurd (omega arith)
+
+  quiet_kept : (s : Stands) (d : Due) → told_by NOTHING ≡ tick_by p b lent d s → q ≡ p
+  quiet_kept s Nothing e = ap (λ (o : PlayerOutcome). o.player) e
+  quiet_kept s SetBack e = let q = ap (λ (o : PlayerOutcome). o.left.said) e in let z : ◌≡◌ {A = ℕ} 0 2 = cc in absurd (omega arith)
+  quiet_kept s Frame e = drawn_tells s (draw p b lent).result (draw p b lent).after e
+
+  pub tick_quiet : (reading : ℕ) → told_by NOTHING ≡ tick p b reading lent → plays p (leaves (done (NOTHING ∷ [])) m) ≡ tick p b reading lent
+  unfolding tick
+  tick_quiet reading e =
+      let t = stepped p.frames p.speed.0 (clock_of p) reading in
+      ap (λ (x : Player). plays x (leaves (done (NOTHING ∷ [])) m)) (sym (quiet_kept t.stands t.due e)) ∙ e
 
 -- placed
 

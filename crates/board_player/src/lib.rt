@@ -184,7 +184,11 @@ pub fn tick(
         ≡ tick player.old bytes.now reading (state picture.old palette.old) }
 {
     let stepped = step(*player, bytes, reading, picture, palette)?;
-    *player = stepped.player;
+    // Where nothing is due, as at most ticks, nothing is stored.
+    match stepped.event {
+        Event::Nothing => {}
+        _ => *player = stepped.player,
+    }
     Ok(stepped.event)
 }
 

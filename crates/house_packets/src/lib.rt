@@ -12,7 +12,9 @@ ghost use Rattle.house_cells.specs.Rows.{row};
 ghost use Rattle.house_packets.specs.Packets.{bytes, equals, repeats, up_to_repeat, unit_packets, shortenings, gap_packets, row_packets};
 ghost use Rattle.house_packets.specs.Units.{Form as IsForm, unit_at, units_at, PacketAt, empty_packets, Stores};
 
-// How packets are formed: how many pixels a unit is, how many equal next units make a repeat, and the longest skip.
+// How packets are formed: how many pixels a unit is, how many equal next units make a repeat, and the longest skip. Down to the line of a row,
+// all that takes a form is compiled into the line of its kind, where it is a constant: with forms in memory, writing took up to 1.9 of the time
+// where packets are many.
 #[derive(Clone, Copy)]
 pub struct Form {
     pub unit: usize,
@@ -37,6 +39,7 @@ pub struct Stored {
 }
 
 // Whether units x and y are equal.
+#[inline(always)]
 fn same_unit(b: &[u8], form: Form, x: usize, y: usize) -> bool
     requires { (x * form.unit + form.unit ≤ length b.now) × (y * form.unit + form.unit ≤ length b.now) }
     ensures { result ≡ same (unit_at form.unit b.now x) (unit_at form.unit b.now y) }
@@ -53,6 +56,7 @@ fn same_unit(b: &[u8], form: Form, x: usize, y: usize) -> bool
 }
 
 // How many of m units from unit x on are equal to unit v.
+#[inline(always)]
 fn equals_of(b: &[u8], form: Form, v: usize, x: usize, m: usize) -> usize
     requires { (v * form.unit + form.unit ≤ length b.now) × ((x + m) * form.unit ≤ length b.now) }
     ensures { (result ≡ equals (unit_at form.unit b.now v) (units_at form.unit b.now x m)) × (result ≤ m) }
@@ -66,6 +70,7 @@ fn equals_of(b: &[u8], form: Form, v: usize, x: usize, m: usize) -> usize
 }
 
 // Whether a repeat begins at unit x, with m units left.
+#[inline(always)]
 fn repeats_at(b: &[u8], form: Form, x: usize, m: usize) -> bool
     requires { (x + m) * form.unit ≤ length b.now }
     ensures { result ≡ repeats form.least (units_at form.unit b.now x m) }
@@ -78,6 +83,7 @@ fn repeats_at(b: &[u8], form: Form, x: usize, m: usize) -> bool
 }
 
 // How many of m units from unit x on stand before the first repeat.
+#[inline(always)]
 fn up_to_repeat(b: &[u8], form: Form, x: usize, m: usize) -> usize
     requires { (x + m) * form.unit ≤ length b.now }
     ensures { result ≡ up_to_repeat form.least (units_at form.unit b.now x m) }
@@ -91,6 +97,7 @@ fn up_to_repeat(b: &[u8], form: Form, x: usize, m: usize) -> usize
 }
 
 // The first packet of m units from unit x on. A packet takes 127 units at most, so no more than these and a repeat's next are looked at.
+#[inline(always)]
 fn packet_at(b: &[u8], form: Form, x: usize, m: usize) -> Planned
     requires { (1 ≤ m) × ((x + m) * form.unit ≤ length b.now) }
     ensures { PacketAt form.unit form.least b.now x m result.units result.code result.len }
@@ -112,6 +119,7 @@ fn packet_at(b: &[u8], form: Form, x: usize, m: usize) -> Planned
 }
 
 // How often a gap of g pixels is shortened.
+#[inline(always)]
 fn shortened(form: Form, g: usize) -> usize
     ensures { (result ≡ shortenings form.longest g) × (result ≤ g)
         × (form.longest * result ≤ g) × (g ≤ form.longest + form.longest * result) }
@@ -123,6 +131,7 @@ fn shortened(form: Form, g: usize) -> usize
 }
 
 // The bytes of the packets of m units from unit x on after a gap of g pixels.
+#[inline(always)]
 fn gap_size(b: &[u8], form: Form, x: usize, m: usize, g: usize) -> usize
     requires { ((x + m) * form.unit ≤ length b.now) × Wide g × Wide m }
     ensures { (result ≡ length (bytes (gap_packets form.least form.longest g (units_at form.unit b.now x m)))) × (result ≤ 2 * g + 4 * m) }
@@ -141,6 +150,7 @@ fn gap_size(b: &[u8], form: Form, x: usize, m: usize, g: usize) -> usize
 }
 
 // The bytes of the packets of a row of n units.
+#[inline(always)]
 pub fn row_size(a: &[u8], b: &[u8], form: Form, n: usize) -> usize
     requires { Wide (n * form.unit) × (n * form.unit ≤ length a.now) × (n * form.unit ≤ length b.now) }
     ensures { (result ≡ length (bytes (row_packets form.unit form.least form.longest n a.now b.now))) × (result ≤ 4 * n) }
@@ -156,6 +166,7 @@ pub fn row_size(a: &[u8], b: &[u8], form: Form, n: usize) -> usize
 }
 
 // Stores s packets of the longest skip and type 0.
+#[inline(always)]
 fn put_empty(out: &mut [u8], at: usize, form: Form, s: usize)
     requires { at + 2 * s ≤ length out.old }
     ensures { out.new ≡ put out.old at (empty_packets form.longest s) }
@@ -166,6 +177,7 @@ fn put_empty(out: &mut [u8], at: usize, form: Form, s: usize)
 }
 
 // Stores the packets of m units from unit x on after k pixels.
+#[inline(always)]
 fn put_units(
     out: &mut [u8],
     at: usize,
@@ -199,6 +211,7 @@ fn put_units(
 }
 
 // Stores the packets of m units from unit x on after a gap of g pixels.
+#[inline(always)]
 fn put_gap(out: &mut [u8], at: usize, b: &[u8], form: Form, x: usize, m: usize, g: usize) -> Stored
     requires { ((x + m) * form.unit ≤ length b.now) × Wide g × Wide m
         × (at + length (bytes (gap_packets form.least form.longest g (units_at form.unit b.now x m))) ≤ length out.old) }
@@ -215,6 +228,7 @@ fn put_gap(out: &mut [u8], at: usize, b: &[u8], form: Form, x: usize, m: usize, 
 }
 
 // Stores the packets of a row of n units.
+#[inline(always)]
 pub fn put_row(out: &mut [u8], at: usize, a: &[u8], b: &[u8], form: Form, n: usize) -> Stored
     requires { Wide (n * form.unit) × (n * form.unit ≤ length a.now) × (n * form.unit ≤ length b.now)
         × (at + length (bytes (row_packets form.unit form.least form.longest n a.now b.now)) ≤ length out.old) }
@@ -255,7 +269,8 @@ pub trait Line {
 }
 
 // The pictures and their width stay apart: of a struct that borrows them a clause would say `pair.entry.previous.now`.
-// The bytes of the lines of n rows from row first on.
+// The bytes of the lines of n rows from row first on. Compiled into no caller, as put_lines is: it would add to the stack that the row search needs.
+#[inline(never)]
 pub fn lines_size<L: Line>(
     previous: &[u8],
     next: &[u8],
@@ -277,6 +292,7 @@ pub fn lines_size<L: Line>(
 }
 
 // Stores the lines of n rows from row first on; answers where they end.
+#[inline(never)]
 pub fn put_lines<L: Line>(
     out: &mut [u8],
     at: usize,

@@ -126,7 +126,8 @@ fn play_twice(
 }
 
 // Plays sub-chunks in one pass, over a picture and palette that are copied first and put back if it is refused. A function of its own,
-// with the promises of the other: the room for the copies is taken only where a frame has many packets.
+// with the promises of the other, that is compiled into no caller: the room for the copies is taken only where a frame has many packets.
+#[inline(never)]
 fn play_saved(
     picture: &mut [u8],
     palette: &mut [u8],

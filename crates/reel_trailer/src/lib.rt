@@ -38,13 +38,16 @@ fn put_index(out: &mut [u8], b: &[u8], count: usize)
 }
 
 // A buffer of zeros: memory of fixed size, as no heap is used.
+#[inline(always)]
 fn zeros() -> [u8; TRAILER_MOST]
     ensures { result ≡ padded [] }
 {
     [0; TRAILER_MOST]
 }
 
-// The index of count frames of b and the trailer, at the front of a buffer of zeros.
+// The index of count frames of b and the trailer, at the front of a buffer of zeros. Compiled into who asks for it, so that no buffer is handed
+// back by a copy.
+#[inline(always)]
 fn trailer_of(b: &[u8], count: usize) -> [u8; TRAILER_MOST]
     requires { Walked b.now count }
     ensures { result ≡ padded (trailer_of (top_frames b.now count header_bytes).offsets) }

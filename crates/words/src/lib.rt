@@ -195,7 +195,7 @@ pub fn put_u16(out: &mut [u8], at: usize, x: usize)
     requires { (at + 2 ≤ length out.old) × (x < 65536) }
     ensures { out.new ≡ put out.old at (le16 x []) }
 {
-    put_bytes(out, at, &x.to_le_bytes()[..2]);
+    out[at..at + 2].copy_from_slice(&x.to_le_bytes()[..2]);
 }
 
 // Stores a 32-bit word.
@@ -203,7 +203,7 @@ pub fn put_u32(out: &mut [u8], at: usize, x: usize)
     requires { at + 4 ≤ length out.old }
     ensures { out.new ≡ put out.old at (le32 x []) }
 {
-    put_bytes(out, at, &x.to_le_bytes()[..4]);
+    out[at..at + 4].copy_from_slice(&x.to_le_bytes()[..4]);
 }
 
 // Stores a chunk's header: its size and its kind.
