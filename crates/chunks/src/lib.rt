@@ -145,8 +145,16 @@ pub fn walk_frames(b: &[u8], count: usize) -> Result<usize, Refused>
     ensures { result ≡ extent b.now count header_bytes }
 {
     let mut at = HEADER_BYTES;
+    // No `?`: a refusal that is given another place falls at that fact here, and behind a `?` at the names that its proof cites.
     for _ in 0..count {
-        at = next_at(b, at)?.end;
+        match next_at(b, at) {
+            Err(Refused(e, place)) => {
+                return Err(Refused(e, place));
+            }
+            Ok(frame) => {
+                at = frame.end;
+            }
+        }
     }
     Ok(at)
 }

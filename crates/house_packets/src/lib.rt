@@ -13,7 +13,7 @@ ghost use Rattle.house_packets.specs.Packets.{bytes, equals, repeats, up_to_repe
 ghost use Rattle.house_packets.specs.Units.{Form as IsForm, unit_at, units_at, PacketAt, empty_packets, Stores};
 
 // How packets are formed: how many pixels a unit is, how many equal next units make a repeat, and the longest skip. Down to the line of a row,
-// all that takes a form is compiled into the line of its kind, where it is a constant: with forms in memory, writing took up to 1.9 of the time
+// all that takes a form is compiled into the line of its kind, where it is a constant: with forms in memory, writing took up to 1.8 of the time
 // where packets are many.
 #[derive(Clone, Copy)]
 pub struct Form {
